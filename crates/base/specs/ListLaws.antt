@@ -1,5 +1,5 @@
 -- What the tests on lists tell of the lists, and stretches of a list. Assumes nothing.
-use Rattle.std.specs.Prelude.{Bool, true, false, ◌&&◌, ◌||◌, List, [], ◌∷◌, ◌++◌, ◌↔◌, ◌≡◌, refl, ℕ, zero, suc, ◌+◌, ◌-◌, ◌≤◌, ◌<◌, eqb, take, length, drop, get_or, replicate}
+use Rattle.std.specs.Prelude.{Bool, true, false, ◌||◌, List, [], ◌∷◌, ◌++◌, ◌↔◌, ◌≡◌, refl, ℕ, zero, suc, ◌+◌, ◌-◌, ◌≤◌, ◌<◌, eqb, take, length, drop, get_or, replicate}
 use Rattle.std.proofs.lemmas.Bool.{false≢true}
 use Rattle.std.proofs.Math.Bool.{and-eq-true_iff}
 use Rattle.std.proofs.Common.{ap₂, subst, sym, ◌∙◌, ap, add-one, arith, length-take, length-drop, drop_of_length-le, take-append-drop, length-take-le, take_all, take-take, get_or-take, get_or-drop, drop-drop, drop-cons, eqb-true, eq-eqb, ne_eqb}
@@ -55,11 +55,7 @@ not_nil l h = nil_length l ∙ ne_eqb (length l) 0 (λ e. omega arith)
 pub drop-next : {A : Type 0} (l : List A) (i : ℕ) (d : A) → i < length l → drop i l ≡ get_or l i d ∷ drop (i + 1) l
 drop-next l i d h = drop-cons l i d h ∙ ap (λ (k : ℕ). get_or l i d ∷ drop k l) (sym (add-one i))
 
--- a test on all elements from a place on: on that one and all behind it, and where none is left
-pub all-next : (f : ℕ → Bool) (l : List ℕ) (i : ℕ) → i < length l → all f (drop i l) ≡ (f (get_or l i 0) && all f (drop (i + 1) l))
-unfolding all
-all-next f l i h = ap (all f) (drop-next l i 0 h)
-
+-- a test on all elements from a place on, where none is left
 pub all_end : (f : ℕ → Bool) (l : List ℕ) (i : ℕ) → length l ≤ i → all f (drop i l) ≡ true
 unfolding all
 all_end f l i h = ap (all f) (drop_of_length-le l h)

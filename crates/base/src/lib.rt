@@ -1,7 +1,7 @@
 // Definitions: what every other crate's specs lean on. For code: the counts of specs/Limits.
 #![tactic(auto)]
 
-// kept: the library's memory is fixed, without a heap, a rule of the project: so arrays of these sizes stand in all crates, and no lists that grow
+// kept: the library's memory is fixed, without a heap, a rule of the project: so arrays and lists of at most such sizes stand in the crates
 
 // how many steps, strings, numbers, labels and routines a program may have
 pub const STEPS: usize = 256;

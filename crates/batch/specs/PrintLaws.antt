@@ -1,14 +1,14 @@
 -- What is printed for a deck that is refused, and for one that ran. Assumes nothing.
-use Rattle.std.specs.Prelude.{Bool, true, false, cond, ◌≡◌, refl, ℕ, ◌≤◌, ltb, take}
-use mathlib.Core.List.{List, [], ◌++◌}
+use Rattle.std.specs.Prelude.{Bool, true, false, cond, ◌≡◌, refl, ℕ, ◌≤◌, ltb, take, drop, replicate}
+use mathlib.Core.List.{List, [], ◌++◌, append-nil}
 use Rattle.std.proofs.Math.Path.{sym, ap}
-use Rattle.std.proofs.Common.{ap₂, subst, ◌∙◌, arith, take_all, le-ltb}
+use Rattle.std.proofs.Common.{ap₂, subst, ◌∙◌, arith, take_all, le-ltb, drop_of_length-le}
 use Rattle.std.proofs.Math.ListN.{length, get_or, length-take}
-use Rattle.std.proofs.lemmas.List.{take-append-le}
+use Rattle.std.proofs.lemmas.List.{take-append-le, length-replicate}
 use Rattle.base.specs.Current.{current}
 use Rattle.base.specs.Limits.{longest_deck}
 use Rattle.base.specs.Text.{bytes}
-use Rattle.encoding.specs.Buffers.{store_size, state_in}
+use Rattle.encoding.specs.Buffers.{store_size, first_state, state_in}
 use Rattle.calls.specs.Calls.{ReadCalled, read_by, read_judged, read_call, StartCalled, start_call, Buffers, buffers, given_in}
 use Rattle.calls.specs.Calls.{RunReturned, outcome_number, result_numbers}
 use Rattle.calls.specs.Demands.{observed_run, RunClaim, ListClaim, Linked, History, Demand3}
@@ -19,10 +19,10 @@ use Rattle.validation.specs.Deck.{Judgement, accepted, refused, judge}
 use Rattle.syntax.specs.Program.{Program}
 use Rattle.machine.specs.Run.{Outcome, FINISHED, STOPPED, SPENT, REFUSED, Ran, run}
 use Rattle.machine.specs.State.{State, fresh}
-use Rattle.interpreter.specs.Endings.{outcome_meaning, ran_back}
+use Rattle.interpreter.specs.Endings.{outcome_meaning, ended_number, ran_back}
 use Rattle.interpreter.specs.declared.run.Ran as code
-use Rattle.printing.specs.Printing.{Put}
-use Rattle.batch.specs.Printing.{longest_word, outcome_of, line_of, ran_line, Prints}
+use Rattle.printing.specs.Printing.{Put, numbers_text}
+use Rattle.batch.specs.Printing.{longest_word, outcome_of, line_of, Prints}
 
 -- the buffers behind a start, with the output lent
 abbrev pub behind_start : StartCalled → List ℕ → Buffers
@@ -35,6 +35,29 @@ word_short FINISHED = omega arith
 word_short STOPPED = omega arith
 word_short SPENT = omega arith
 word_short REFUSED = omega arith
+
+-- a closing line is a word and its numbers
+pub closing_parts : (o : Outcome) (number steps notes : ℕ) → outcome_word o ++ numbers_text number steps notes ≡ closing_line o number steps notes
+unfolding closing_line numbers_text
+closing_parts o number steps notes = refl
+
+pub refused_line : (number card : ℕ) → bytes "REFUSED" ++ numbers_text number card 0 ≡ closing_line REFUSED number card 0
+unfolding outcome_word
+refused_line number card = closing_parts REFUSED number card 0
+
+-- what is started of a store of zeros
+pub started_zeros : {state : List ℕ} → state ≡ first_state
+    → record { number = 0; store = replicate store_size 0; state = state } ≡ start_call (replicate store_size 0)
+unfolding start_call
+started_zeros {state} e =
+    let zeros : List ℕ = replicate store_size 0 in
+    let size : length zeros ≡ store_size = length-replicate {A = ℕ} store_size 0 in
+    let none : drop store_size zeros ≡ [] = drop_of_length-le zeros {i = store_size} (omega (arith, size)) in
+    let whole : zeros ++ drop store_size zeros ≡ zeros = ap (λ (l : List ℕ). zeros ++ l) none ∙ append-nil zeros in
+    let small : StartCalled = record { number = 14; store = zeros; state = first_state } in
+    let zeroed : StartCalled = record { number = 0; store = zeros ++ drop store_size zeros; state = first_state } in
+    (λ i. record { number = 0; store = sym whole i; state = e i })
+    ∙ sym (ap (λ t. cond t small zeroed) (le-ltb (length zeros) store_size (omega (arith, size))))
 
 -- an outcome is told by its number
 outcome_of_lem : (o : Outcome) → outcome_of (outcome_number o) ≡ o
@@ -173,9 +196,14 @@ run-prints {back = back} rest p put =
     record { within = put.within; bytes = put.holds ∙ ap (λ (l : List ℕ). l ++ line_of back.result) records ∙ sym p.bytes }
 
 -- so with the closing line that the code has of a run
-pub ran-prints : {deck input after : List ℕ} {r : ℕ} (ran : code.Ran) (left : Buffers) (rest : List ℕ) → RunPrints deck input (ran_back ran left)
-    → Put (left.output ++ rest) after (get_or left.state 4 0) (ran_line ran) r → Prints deck input after r
-ran-prints {after = after} {r = r} ran left rest p put =
+pub ran-prints : {deck input after word : List ℕ} {number r : ℕ} (ran : code.Ran) (left : Buffers) (rest : List ℕ)
+    → word ≡ outcome_word (outcome_meaning ran.outcome) → number ≡ ended_number ran.outcome → RunPrints deck input (ran_back ran left)
+    → Put (left.output ++ rest) after (get_or left.state 4 0) (word ++ numbers_text number ran.steps ran.notes) r → Prints deck input after r
+ran-prints {after = after} {r = r} ran left rest word_is number_is p put =
+    let o = outcome_meaning ran.outcome in
+    let n = ended_number ran.outcome in
     run-prints rest p
     (subst (λ (l : List ℕ). Put (left.output ++ rest) after (get_or left.state 4 0) l r)
-    (sym (line_of_lem (outcome_meaning ran.outcome) ran.number ran.steps ran.notes)) put)
+    (ap₂ (λ (w : List ℕ) (k : ℕ). w ++ numbers_text k ran.steps ran.notes) word_is number_is
+    ∙ closing_parts o n ran.steps ran.notes
+    ∙ sym (line_of_lem o n ran.steps ran.notes)) put)

@@ -2,8 +2,6 @@
 use Rattle.std.specs.Prelude.{cond, List, ◌≡◌, ℕ, ◌+◌, ◌≤◌, eqb, length, take, get_or}
 use Rattle.base.specs.Current.{current}
 use Rattle.calls.specs.Strigol.{kept_deck, kept_input, lent_output, closing_line, printed}
-use Rattle.interpreter.specs.Endings.{outcome_meaning}
-use Rattle.interpreter.specs.declared.run.Ran.{Ran}
 use Rattle.machine.specs.Run.{Outcome, FINISHED, STOPPED, SPENT, REFUSED}
 
 -- the longest word for an outcome
@@ -21,10 +19,6 @@ outcome_of n = cond (eqb n 0) FINISHED (cond (eqb n 1) STOPPED (cond (eqb n 2) S
 -- the closing line of a result: outcome, number, steps or card, notes
 unfoldable pub line_of : List ℕ → List ℕ
 line_of result = closing_line (outcome_of (get_or result 0 0)) (get_or result 1 0) (get_or result 2 0) (get_or result 3 0)
-
--- the closing line of a run, as the code has it
-abbrev pub ran_line : Ran → List ℕ
-ran_line r = closing_line (outcome_meaning r.outcome) r.number r.steps r.notes
 
 -- L15 a deck and an input of which no more is kept, and room for all that is printed
 pub record BatchLent (deck input out : List ℕ) : Type 0 where

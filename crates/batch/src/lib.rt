@@ -2,17 +2,16 @@
 // Assumes nothing.
 #![tactic(auto)]
 
-ghost use Rattle.std.specs.Prelude.{◌≡◌, ◌+◌, ◌≤◌, length};
+ghost use Rattle.std.specs.Prelude.{◌++◌, ◌≡◌, ◌+◌, ◌≤◌, length};
 ghost use Rattle.calls.specs.Strigol.{outcome_word};
 ghost use Rattle.interpreter.specs.Endings.{outcome_meaning};
-ghost use Rattle.printing.specs.Printing.{Put};
-ghost use Rattle.batch.specs.Printing.{longest_line, ran_line, BatchLent, Prints};
+ghost use Rattle.printing.specs.Printing.{Put, numbers_text};
+ghost use Rattle.batch.specs.Printing.{longest_line, longest_word, BatchLent, Prints};
 
 use deck_reader::strigol_read;
 use encoding::{STATE_SIZE, STORE_SIZE, TABLE_SIZE, WRITTEN_AT};
-use interpreter::run::{Outcome, Ran, run};
+use interpreter::run::{Outcome, run};
 use printing::{LONGEST_NUMBERS, put, put_numbers};
-use state::strigol_start;
 
 // the bytes kept of a deck, one more than a deck may have, and of the input
 pub const KEPT_DECK: usize = base::DECK + 1;
@@ -36,25 +35,19 @@ fn word(outcome: Outcome) -> &'static [u8]
 {
     match outcome {
         Outcome::Finished => b"FINISHED",
-        Outcome::Stopped => b"STOPPED",
+        Outcome::Stopped(_) => b"STOPPED",
         Outcome::Spent => b"SPENT",
-        Outcome::Refused => b"REFUSED",
+        Outcome::Refused(_) => b"REFUSED",
     }
 }
 
-// the closing line of a run, from at on; where it ends
-fn put_line(ran: Ran, at: usize, out: &mut [u8]) -> usize
-    requires { at + longest_line ≤ length out.old }
-    ensures { Put out.old out.new at (ran_line ran) result }
+// a closing line: a word, and three numbers with a line end, from at on; where it ends
+fn put_line(word: &[u8], number: u32, steps: u32, notes: u64, at: usize, out: &mut [u8]) -> usize
+    requires { (length word.now ≤ longest_word) × (at + longest_line ≤ length out.old) }
+    ensures { Put out.old out.new at (word.now ++ numbers_text number steps notes) result }
 {
-    let word_end = put(word(ran.outcome), at, out);
-    put_numbers(
-        ran.number as u64,
-        ran.steps as u64,
-        ran.notes,
-        word_end,
-        out,
-    )
+    let word_end = put(word, at, out);
+    put_numbers(number as u64, steps as u64, notes, word_end, out)
 }
 
 // What `strigol` prints for a deck and an input, at the start of out; how many bytes that is.
@@ -64,20 +57,15 @@ pub fn run_deck(deck: &[u8], input: &[u8], out: &mut [u8]) -> usize
 {
     let mut table = [0u8; TABLE_SIZE];
     let mut card: u32 = 0;
+    // kept: C's call and its number: that a deck is too long is said there alone, so no refusal of deck_reader's read_deck has it
     let number = strigol_read(deck, &mut table, &mut card);
     if number != 0 {
-        // its line has the card in place of the steps
-        let refused = Ran {
-            outcome: Outcome::Refused,
-            number,
-            steps: card,
-            notes: 0,
-        };
-        return put_line(refused, 0, out);
+        // in place of the steps stands the card
+        return put_line(b"REFUSED", number, card, 0, 0, out);
     }
     let mut store = [0u8; STORE_SIZE];
     let mut state = [0u64; STATE_SIZE];
-    strigol_start(&mut store, &mut state);
+    state::start(&mut state);
     let ran = run(
         &table,
         &mut store,
@@ -86,5 +74,12 @@ pub fn run_deck(deck: &[u8], input: &[u8], out: &mut [u8]) -> usize
         &mut out[..LENT_OUTPUT],
         MOST_STEPS,
     );
-    put_line(ran, state[WRITTEN_AT] as usize, out)
+    put_line(
+        word(ran.outcome),
+        ran.number(),
+        ran.steps,
+        ran.notes,
+        state[WRITTEN_AT] as usize,
+        out,
+    )
 }

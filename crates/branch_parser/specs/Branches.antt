@@ -1,4 +1,5 @@
 -- What the readers of labels, routines and branch fields do. Assumes nothing.
+use Rattle.encoding.specs.Kinds.{goto_kind, execute_kind}
 use Rattle.encoding.specs.Meaning.{branch_meaning}
 use Rattle.std.specs.Prelude.{Option, Some, None, true, false, List, [], ◌≡◌, ℕ, drop}
 use Rattle.base.specs.Current.{current}
@@ -20,11 +21,16 @@ use Rattle.encoding.specs.declared.cells.Branch.{Branch}
 use Rattle.branch_parser.specs.declared.Target.{Target}
 use Rattle.branch_parser.specs.declared.Target.TheVariants.{Label, Entry, Exit}
 
--- a name that leads to a step: its tag, and what it is mentioned as
+-- a name that leads to a step: its tag, the kind of the row of a step that goes there, and what it is mentioned as
 abbrev pub target_tag : Target → Tag
 target_tag Label = LabelUsed
 target_tag Entry = RoutineUsed
 target_tag Exit = RoutineDeclared
+
+abbrev pub target_kind : Target → ℕ
+target_kind Label = goto_kind.number
+target_kind Entry = execute_kind.number
+target_kind Exit = goto_kind.number
 
 abbrev pub met_as : Target → List ℕ → Mentions
 met_as Label = usage for_label []

@@ -1,24 +1,24 @@
 -- How the tests of IF are read, part by part. Assumes nothing.
-use Rattle.std.specs.Prelude.{Option, Some, None, Bool, ◌||◌, ◌≡◌, length, get_or}
+use Rattle.std.specs.Prelude.{Option, Some, None, Bool, ◌||◌, ◌≡◌, get_or}
 use Rattle.std.proofs.Math.Bool.{true, false}
 use mathlib.Core.List.{List, [], ◌∷◌}
 use Rattle.std.proofs.Math.Path.{refl, ap, ap₂, subst}
-use Rattle.std.proofs.Common.{sym, ◌∙◌, arith, length-drop, drop-drop}
-use Prim.Native.Nat.{ℕ, suc, ◌+◌, ◌<◌}
+use Rattle.std.proofs.Common.{sym, ◌∙◌}
+use Prim.Native.Nat.{ℕ, ◌+◌}
 use Rattle.std.proofs.Math.ListN.{drop}
 use Rattle.base.specs.Current.{current}
-use Rattle.base.specs.ListLaws.{begins_room}
 use Rattle.base.specs.Lists.{begins}
 use Rattle.base.specs.Text.{bytes}
-use Rattle.encoding.specs.Kinds.{parts, null_kind, numeric_kind, compare_kind}
+use Rattle.encoding.specs.Kinds.{constant_kind, parts, null_kind, numeric_kind, compare_kind}
 use Rattle.encoding.specs.Table as Table
 use Rattle.encoding.specs.Table.{part_cell, operand_cell, comparison_number, statement_row, no_cell}
 use Rattle.cards.specs.Bytes.{is_digit}
 use Rattle.syntax.specs.Numeric.{called_or_number, comparison, if_operand, test}
 use Rattle.syntax.specs.Program as Program
-use Rattle.syntax.specs.Program.{Comparison, equal, unequal, less, greater, at_most, at_least, Test, is_null, is_numeric, compares}
+use Rattle.syntax.specs.Program.{Test, is_null, is_numeric, compares}
 use Rattle.syntax.specs.Parsing.{Parsed, broken, ◌>>=◌, succeed, expect}
 use Rattle.syntax.specs.Lexemes.{Resolution, is_sign, no_role, string_name, part_name}
+use Rattle.numbers.specs.Numbers.{comparison_meaning}
 use Rattle.symbols.specs.Entries.{role_of}
 use Rattle.symbols.specs.ParsingLaws.{succeed_then, got_broken}
 use Rattle.symbols.specs.declared.Cursor.{Cursor}
@@ -26,16 +26,16 @@ use Rattle.symbols.specs.declared.Mentioned.{Mentioned}
 use Rattle.numeric_parser.specs.OperandLaws.{gets_succeed, gets_then, gets_skip, skipped, drop-moved, then_broken, chosen}
 use Rattle.numeric_parser.specs.OperandLaws.{cell_same, cell-made, place-cell, cell_skip, gets_closed, gets_open}
 use Rattle.encoding.specs.Meaning.{cell_meaning, row_meaning}
-use Rattle.numeric_parser.specs.Operands.{Gets, cursor_moved, OperandRead, PlaceRead, placed_in}
+use Rattle.numeric_parser.specs.Operands.{Gets, cursor_moved, OperandRead, PlaceRead, placed_in, SignedRead}
 use Rattle.encoding.specs.declared.cells.Cell.{Cell}
 use Rattle.encoding.specs.declared.cells.Row.{Row}
 use Rattle.branch_parser.specs.Rows.{DraftRead, draft_same}
-use Rattle.branch_parser.specs.Tests.{SignStands, ComparisonAt, SignedRead, test_alone, one_cell, rowed_at, tested_by, compared_to, comparing_at}
+use Rattle.branch_parser.specs.Tests.{SignStands, test_alone, one_cell, rowed_at, tested_by, compared_to, comparing_at}
 use Rattle.branch_parser.specs.declared.tests.Sign.{Sign}
 
 -- an operand of IF
 module _ (p : Resolution) {text : List ℕ} {m : Mentioned} {c : Cursor} where
-  pub if_signed : {r : Option (Cell × Cursor)} → (is_digit (get_or (drop c.at text) 0 0) || is_sign (drop c.at text)) ≡ true → SignedRead text m c r
+  pub if_signed : {r : Option (Cell × Cursor)} → (is_digit (get_or (drop c.at text) 0 0) || is_sign (drop c.at text)) ≡ true → SignedRead text m c constant_kind.number 0 r
       → OperandRead operand_cell text m c (if_operand current p (drop c.at text)) r m
   unfolding if_operand operand_cell
   if_signed {r} e a = cell_same (chosen _ _ e) (cell-made Program.constant operand_cell r (λ _. refl) a)
@@ -46,59 +46,6 @@ module _ (p : Resolution) {text : List ℕ} {m : Mentioned} {c : Cursor} where
   unfolding if_operand
   if_called e a = cell_same (chosen _ _ e) a
 
--- the signs, one test behind the other
-module _ (text : List ℕ) (at : ℕ) where
-  stands : (w : List ℕ) (which : Comparison) (n k : ℕ) → begins w (drop at text) ≡ true → length w ≡ n → 0 < n
-      → comparison (drop at text) ≡ succeed which (drop n (drop at text)) → comparison_number which ≡ suc k
-      → ComparisonAt text at (Some (record { number = suc k; size = n }))
-  stands w which n k e size some is made =
-      record {
-        answer =
-            record {
-              which = which;
-              is = is ∙ ap (succeed which) (drop-drop n at text);
-              made = made;
-              inside = omega (arith, begins_room w (drop at text) e, length-drop at text);
-            };
-      }
-
-  pub comparison_unequal : begins (60 ∷ (62 ∷ [])) (drop at text) ≡ true → ComparisonAt text at (Some (record { number = 2; size = 2 }))
-  unfolding comparison bytes comparison_number
-  comparison_unequal e = stands (60 ∷ (62 ∷ [])) unequal 2 1 e refl (omega arith) (chosen _ _ e) refl
-
-  module _ (e₁ : begins (60 ∷ (62 ∷ [])) (drop at text) ≡ false) where
-    pub comparison-most : begins (60 ∷ (61 ∷ [])) (drop at text) ≡ true → ComparisonAt text at (Some (record { number = 5; size = 2 }))
-    unfolding comparison bytes comparison_number
-    comparison-most e = stands (60 ∷ (61 ∷ [])) at_most 2 4 e refl (omega arith) (chosen _ _ e₁ ∙ chosen _ _ e) refl
-
-    module _ (e₂ : begins (60 ∷ (61 ∷ [])) (drop at text) ≡ false) where
-      pub comparison-least : begins (62 ∷ (61 ∷ [])) (drop at text) ≡ true → ComparisonAt text at (Some (record { number = 6; size = 2 }))
-      unfolding comparison bytes comparison_number
-      comparison-least e = stands (62 ∷ (61 ∷ [])) at_least 2 5 e refl (omega arith) (chosen _ _ e₁ ∙ chosen _ _ e₂ ∙ chosen _ _ e) refl
-
-      module _ (e₃ : begins (62 ∷ (61 ∷ [])) (drop at text) ≡ false) where
-        pub comparison_equal : begins (61 ∷ []) (drop at text) ≡ true → ComparisonAt text at (Some (record { number = 1; size = 1 }))
-        unfolding comparison bytes comparison_number
-        comparison_equal e = stands (61 ∷ []) equal 1 0 e refl (omega arith) (chosen _ _ e₁ ∙ chosen _ _ e₂ ∙ chosen _ _ e₃ ∙ chosen _ _ e) refl
-
-        module _ (e₄ : begins (61 ∷ []) (drop at text) ≡ false) where
-          pub comparison_less : begins (60 ∷ []) (drop at text) ≡ true → ComparisonAt text at (Some (record { number = 3; size = 1 }))
-          unfolding comparison bytes comparison_number
-          comparison_less e =
-              stands (60 ∷ []) less 1 2 e refl (omega arith) (chosen _ _ e₁ ∙ chosen _ _ e₂ ∙ chosen _ _ e₃ ∙ chosen _ _ e₄ ∙ chosen _ _ e) refl
-
-          module _ (e₅ : begins (60 ∷ []) (drop at text) ≡ false) where
-            pub comparison_greater : begins (62 ∷ []) (drop at text) ≡ true → ComparisonAt text at (Some (record { number = 4; size = 1 }))
-            unfolding comparison bytes comparison_number
-            comparison_greater e =
-                stands (62 ∷ []) greater 1 3 e refl (omega arith)
-                (chosen _ _ e₁ ∙ chosen _ _ e₂ ∙ chosen _ _ e₃ ∙ chosen _ _ e₄ ∙ chosen _ _ e₅ ∙ chosen _ _ e) refl
-
-            pub comparison_none : begins (62 ∷ []) (drop at text) ≡ false → ComparisonAt text at None
-            unfolding comparison bytes
-            comparison_none e =
-                record { answer = chosen _ _ e₁ ∙ chosen _ _ e₂ ∙ chosen _ _ e₃ ∙ chosen _ _ e₄ ∙ chosen _ _ e₅ ∙ chosen _ _ e }
-
 -- behind the left operand
 module _ (p : Resolution) (a : Program.Operand) where
   pub compared_none : (bs : List ℕ) → comparison bs ≡ broken → compared_to p a bs ≡ broken
@@ -107,30 +54,30 @@ module _ (p : Resolution) (a : Program.Operand) where
 
   module _ {text : List ℕ} (c : Cursor) {r : Sign} (s : SignStands text c.at r) {b : Cursor} (moved : b ≡ cursor_moved c r.size) where
     compared_is : compared_to p a (drop c.at text)
-        ≡ (if_operand current p (drop b.at text) >>= λ (b, rest). succeed (compares a s.which b) rest)
+        ≡ (if_operand current p (drop b.at text) >>= λ (b, rest). succeed (compares a (comparison_meaning r.which) b) rest)
     unfolding compared_to
     compared_is =
-        let next : Comparison × List ℕ → Parsed Test = λ (w, rest). if_operand current p rest >>= λ (b, rest). succeed (compares a w b) rest in
-        ap (λ (y : Parsed Comparison). y >>= next) s.is
-        ∙ succeed_then s.which (drop (c.at + r.size) text) next
-        ∙ ap (λ (z : Cursor). next (s.which, drop z.at text)) (sym moved)
+        let next : Program.Comparison × List ℕ → Parsed Test = λ (w, rest). if_operand current p rest >>= λ (b, rest). succeed (compares a w b) rest in
+        ap (λ (y : Parsed Program.Comparison). y >>= next) s.is
+        ∙ succeed_then (comparison_meaning r.which) (drop (c.at + r.size) text) next
+        ∙ ap (λ (z : Cursor). next (comparison_meaning r.which, drop z.at text)) (sym moved)
 
     pub compared_broken : if_operand current p (drop b.at text) ≡ broken → compared_to p a (drop c.at text) ≡ broken
     compared_broken e = compared_is ∙ then_broken _ e
 
-    pub compared-got : (left right : Cell) {m m₁ : Mentioned} {d : Cursor} → operand_cell a ≡ cell_meaning left
-        → Gets operand_cell (cell_meaning right) text m b (if_operand current p (drop b.at text)) m₁ d
-        → Gets test_alone (Table.row_with compare_kind.number r.number 0 0 (cell_meaning left) (cell_meaning right)) text m c
+    pub compared-got : (left right : Cell) {m m₁ : Mentioned} {d : Cursor} {flag : ℕ} → flag ≡ comparison_number (comparison_meaning r.which)
+        → operand_cell a ≡ cell_meaning left → Gets operand_cell (cell_meaning right) text m b (if_operand current p (drop b.at text)) m₁ d
+        → Gets test_alone (Table.row_with compare_kind.number flag 0 0 (cell_meaning left) (cell_meaning right)) text m c
         (compared_to p a (drop c.at text)) m₁ d
     unfolding statement_row
-    compared-got left right {m} {m₁} {d} e g =
+    compared-got left right {m} {m₁} {d} {flag} f e g =
         let compare : ℕ → Table.Cell → Table.Cell → Table.Row = λ n x y. Table.row_with compare_kind.number n 0 0 x y in
-        let row = compare r.number (cell_meaning left) (cell_meaning right) in
+        let row = compare flag (cell_meaning left) (cell_meaning right) in
         subst (λ y. Gets test_alone row text m c y m₁ d) (sym compared_is)
         (gets_skip r.size (skipped c r.size moved)
-        (gets_succeed _ test_alone row (compares a s.which g.value) g refl
-        (ap (λ n. compare n (operand_cell a) (operand_cell g.value)) s.made
-        ∙ ap₂ (λ (x y : Table.Cell). compare r.number x y) e g.made)))
+        (gets_succeed _ test_alone row (compares a (comparison_meaning r.which) g.value) g refl
+        (ap (λ n. compare n (operand_cell a) (operand_cell g.value)) (sym f)
+        ∙ ap₂ (λ (x y : Table.Cell). compare flag x y) e g.made)))
 
 -- a draft behind another reading
 pub draft_then : {A B C : Type 0} {f : A → C} {v : C} (h : B → Table.Row) {text : List ℕ} {m : Mentioned} {c : Cursor} {x : Parsed A} {m₁ : Mentioned}

@@ -1,15 +1,14 @@
 -- What the readers of tests do. Assumes nothing.
 use Rattle.std.specs.Prelude.{Option, Some, None, List, ◌≡◌, ℕ, ◌+◌, ◌≤◌, length, drop}
 use Rattle.base.specs.Current.{current}
-use Rattle.encoding.specs.Kinds.{constant_kind}
-use Rattle.encoding.specs.Numerals.{biased}
 use Rattle.encoding.specs.Table as Table
-use Rattle.encoding.specs.Table.{operand_cell, comparison_number, statement_row}
+use Rattle.encoding.specs.Table.{operand_cell, statement_row}
 use Rattle.syntax.specs.Numeric.{comparison, if_operand, test}
 use Rattle.syntax.specs.Program as Program
-use Rattle.syntax.specs.Program.{Comparison, compares, Test, if_test}
+use Rattle.syntax.specs.Program.{compares, Test, if_test}
 use Rattle.syntax.specs.Parsing.{Parsed, broken, ◌>>=◌, succeed}
-use Rattle.syntax.specs.Lexemes.{Resolution, signed}
+use Rattle.syntax.specs.Lexemes.{Resolution}
+use Rattle.numbers.specs.Numbers.{comparison_meaning}
 use Rattle.symbols.specs.Environment.{places_in}
 use Rattle.symbols.specs.declared.Cursor.{Cursor}
 use Rattle.symbols.specs.declared.Mentioned.{Mentioned}
@@ -21,11 +20,9 @@ use Rattle.branch_parser.specs.Rows.{DraftRead}
 use Rattle.encoding.specs.declared.cells.Row.{Row}
 use Rattle.branch_parser.specs.declared.tests.Sign.{Sign}
 
--- a sign stands at a place, and the code's value says which
+-- a sign stands at a place
 pub record SignStands (text : List ℕ) (at : ℕ) (r : Sign) : Type 0 where
-  pub which : Comparison
-  pub is : comparison (drop at text) ≡ succeed which (drop (at + r.size) text)
-  pub made : comparison_number which ≡ r.number
+  pub is : comparison (drop at text) ≡ succeed (comparison_meaning r.which) (drop (at + r.size) text)
   pub inside : at + r.size ≤ length text
 
 -- the sign at a place, if one stands there
@@ -71,10 +68,6 @@ comparing_at p bs = do
   compared_to p a rest
 
 -- each reader at the cursor
-abbrev pub SignedRead : (text : List ℕ) (m : Mentioned) (c : Cursor) → Option (Cell × Cursor) → Type 0
-SignedRead text m c r =
-    OperandRead (λ z. Table.cell constant_kind.number 0 (biased z)) text m c (signed current (drop c.at text)) r m
-
 abbrev pub IfOperandRead : (text : List ℕ) (known : Known) (m : Mentioned) (c : Cursor) → Option (Cell × Cursor) → (m' : Mentioned) → Type 0
 IfOperandRead text known m c = OperandRead operand_cell text m c (if_operand current (places_in known) (drop c.at text))
 

@@ -1,25 +1,26 @@
 // Names that lead to steps, branch fields and the tests of IF, each read into what the row of a statement has of them.
 // Assumes nothing.
-// kept: text, names, table and cursor are passed one by one, with ReaderReady as a clause, as numeric_parser/operands says
+// kept: text, names and cursor are passed one by one, with ReaderReady (of one in tests.rt InText) as a clause, as numeric_parser/operands says
 #![tactic(auto)]
 
 pub mod places;
 pub mod tests;
 
 ghost use Rattle.std.specs.Prelude.{◌≡◌};
-ghost use Rattle.branch_parser.specs.Branches.{target_tag, TargetRead, FailureRead, TargetsRead, BranchRead};
+ghost use Rattle.branch_parser.specs.Branches.{target_tag, target_kind, TargetRead, FailureRead, TargetsRead, BranchRead};
 ghost use Rattle.numeric_parser.specs.Operands.{ReaderReady};
 
-use encoding::cell_kinds;
 use encoding::cells::{Branch, Cell, Row};
-use lexer::stands_at;
-use numeric_parser::operands::{marked, read_name, skip};
+use encoding::{cell_kinds, step_kinds};
+use numeric_parser::operands::{marked, read_name};
 use places::target_step;
 use symbols::known::Known;
 use symbols::tags::Tag;
 use symbols::{Cursor, Mentioned};
 
 // a row of which nothing is known yet
+// kept: constants, no derived Default: tried, and the proof of a row (that of compared) must carry the equation of the call, where a constant's
+// fields compute; and which kind the zero of a cell is stands here
 pub const BLANK: Row = Row {
     kind: 0,
     flag: 0,
@@ -58,6 +59,16 @@ impl Target {
             Target::Label => Tag::LabelUsed,
             Target::Entry => Tag::RoutineUsed,
             Target::Exit => Tag::RoutineDeclared,
+        }
+    }
+
+    // the kind of the row of a step that goes there
+    pub fn kind(self) -> u8
+        ensures { result ≡ target_kind self }
+    {
+        match self {
+            Target::Label | Target::Exit => step_kinds::GOTO,
+            Target::Entry => step_kinds::EXECUTE,
         }
     }
 }
@@ -103,12 +114,12 @@ fn read_targets(
     ensures { TargetsRead text.now known.now mentioned.old c result mentioned.new }
 {
     let next = known.next;
-    if stands_at(text, c.at, b',') {
-        return read_failure(text, known, mentioned, skip(c, 1), next);
+    if let Some(comma) = marked(text, c, b',') {
+        return read_failure(text, known, mentioned, comma, next);
     }
     let (success, d) = read_target(text, known, mentioned, c, Target::Label)?;
-    if stands_at(text, d.at, b',') {
-        return read_failure(text, known, mentioned, skip(d, 1), success);
+    if let Some(comma) = marked(text, d, b',') {
+        return read_failure(text, known, mentioned, comma, success);
     }
     let failure = next;
     Some((Branch { success, failure }, d))

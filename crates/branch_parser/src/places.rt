@@ -16,6 +16,7 @@ fn label_found(known: &Known, key: u64) -> Option<Label>
 }
 
 // the latest routine that has a name, if one has it
+// kept: beside label_found: this one looks from the latest back, in a list of another type
 fn routine_found(known: &Known, key: u64) -> Option<Routine>
     ensures { result ≡ find (λ r. r.key == key) (reverse known.now.routines.items) }
 {
@@ -28,7 +29,7 @@ fn routine_found(known: &Known, key: u64) -> Option<Routine>
 }
 
 // the step that a name leads to, 0 for none
-// kept: 0 and no Option: the first pass meets names of no step yet, and the row's bytes, where the answer goes, have a number in any case
+// kept: 0 and no Option, as in rows made with no steps: the first pass meets names of no step yet, and a row's bytes have a number in any case
 pub fn target_step(known: &Known, key: u64, target: Target) -> usize
     ensures { result ≡ step_to known.now target (name_of key) }
 {

@@ -1,64 +1,46 @@
 // The tests of IF: NULL, NUMERIC, or two operands and a sign.
 // Assumes nothing.
-ghost use Rattle.std.specs.Prelude.{Some, ◌≡◌, ◌≤◌};
-ghost use Rattle.branch_parser.specs.Tests.{ComparisonAt, SignedRead, IfOperandRead, tested_by, ComparedRead, ComparingRead, TestRead};
+ghost use Rattle.std.specs.Prelude.{Some, ◌≡◌};
+ghost use Rattle.branch_parser.specs.Tests.{ComparisonAt, IfOperandRead, tested_by, ComparedRead, ComparingRead, TestRead};
 ghost use Rattle.numeric_parser.specs.Operands.{ReaderReady, InText};
 
 use crate::BLANK;
 use encoding::cells::{Cell, Row};
 use encoding::{cell_kinds, step_kinds};
-use lexer::constants::signed;
-use lexer::{begins_at, constant_at, stands_at};
-use numeric_parser::operands::{marked, read_called, read_part, read_string, skip};
+use lexer::{begins_at, constant_at};
+use numbers::Comparison;
+use numeric_parser::operands::{
+    behind_word, marked, read_called, read_part, read_string, signed_constant, skip,
+};
 use symbols::known::Known;
-use symbols::{Cursor, Mentioned, with_bias};
+use symbols::{Cursor, Mentioned};
 
-// the sign of a comparison: its number, and how many bytes it has
-// kept: the sign is the number that the row's flag gets, a table's byte: an enum would be made here and opened where the row is made
+// the sign of a comparison: which one, and how many bytes it has
 #[derive(Clone, Copy)]
 struct Sign {
-    number: u8,
+    which: Comparison,
     size: usize,
 }
 
-// the sign at a place, if one stands there: the two-byte signs first
+// the signs, the two-byte ones first
+static SIGNS: [(&[u8], Comparison); 6] = [
+    (b"<>", Comparison::Unequal),
+    (b"<=", Comparison::AtMost),
+    (b">=", Comparison::AtLeast),
+    (b"=", Comparison::Equal),
+    (b"<", Comparison::Less),
+    (b">", Comparison::Greater),
+];
+
+// the sign at a place, if one stands there
 fn comparison(text: &[u8], at: usize) -> Option<Sign>
     ensures { ComparisonAt text.now at result }
 {
-    if begins_at(text, at, b"<>") {
-        return Some(Sign { number: 2, size: 2 });
-    }
-    if begins_at(text, at, b"<=") {
-        return Some(Sign { number: 5, size: 2 });
-    }
-    if begins_at(text, at, b">=") {
-        return Some(Sign { number: 6, size: 2 });
-    }
-    if stands_at(text, at, b'=') {
-        return Some(Sign { number: 1, size: 1 });
-    }
-    if stands_at(text, at, b'<') {
-        return Some(Sign { number: 3, size: 1 });
-    }
-    if stands_at(text, at, b'>') {
-        return Some(Sign { number: 4, size: 1 });
-    }
-    None
-}
-
-// a constant that may have a sign
-fn signed_constant(text: &[u8], c: Cursor) -> Option<(Cell, Cursor)>
-    requires { InText text.now c }
-    ensures { (m : Mentioned) → ReaderReady text.now c → SignedRead text.now m c result }
-{
-    let at = c.at;
-    let number = signed(text, at)?;
-    let cell = Cell {
-        kind: cell_kinds::CONSTANT,
-        place: 0,
-        value: with_bias(number.value),
-    };
-    Some((cell, skip(c, number.next - at)))
+    let (word, which) = SIGNS.iter().find(|(word, _)| begins_at(text, at, word))?;
+    Some(Sign {
+        which: *which,
+        size: word.len(),
+    })
 }
 
 // a signed constant, a number, LENGTH or NUMBER
@@ -72,7 +54,7 @@ fn if_operand(
     ensures { IfOperandRead text.now known.now mentioned.old c result mentioned.new }
 {
     if constant_at(text, c.at) {
-        return signed_constant(text, c);
+        return signed_constant(text, c, cell_kinds::CONSTANT, 0);
     }
     read_called(text, known, mentioned, c)
 }
@@ -92,7 +74,7 @@ fn compared(
     let (right, d) = if_operand(text, known, mentioned, skip(c, sign.size))?;
     let row = Row {
         kind: step_kinds::COMPARE,
-        flag: sign.number,
+        flag: sign.which.number(),
         left,
         right,
         ..BLANK
@@ -140,9 +122,8 @@ pub fn read_test(
     requires { ReaderReady text.now c }
     ensures { TestRead text.now known.now mentioned.old c result mentioned.new }
 {
-    let at = c.at;
-    if begins_at(text, at, b"NULL(") {
-        let (place, d) = read_string(text, known, mentioned, skip(c, 5), None)?;
+    if let Some(open) = behind_word(text, c, b"NULL(") {
+        let (place, d) = read_string(text, known, mentioned, open, None)?;
         let cell = Cell {
             kind: cell_kinds::STRING,
             place,
@@ -150,9 +131,8 @@ pub fn read_test(
         };
         return tested(text, step_kinds::NULL, cell, d);
     }
-    if begins_at(text, at, b"NUMERIC(") {
-        let kind = cell_kinds::STRING;
-        let (cell, d) = read_part(text, known, mentioned, skip(c, 8), kind, None)?;
+    if let Some(open) = behind_word(text, c, b"NUMERIC(") {
+        let (cell, d) = read_part(text, known, mentioned, open, cell_kinds::STRING, None)?;
         return tested(text, step_kinds::NUMERIC, cell, d);
     }
     comparing(text, known, mentioned, c)

@@ -16,7 +16,7 @@ use packed::{Packing, Place};
 
 // a statement while its lines are joined: whether they are sound, whether the last one joins the next, what is packed, how many
 // lines were taken and where the next one starts
-// kept: two truths with no value beside them: whether 3 holds so far, and whether column 9 joins the next line
+// kept: two truths with no value beside them: whether all lines are sound by 3, and whether column 9 joins the next one
 #[derive(Clone, Copy)]
 pub struct Joining {
     pub sound: bool,
@@ -27,7 +27,8 @@ pub struct Joining {
 }
 
 // a statement by its packed text: the key of its label, the length of that text, whether its literals are whole
-// kept: 0 for no label, which is the key of the empty name: what document 01 has there
+// kept: 0 is the key of the empty name, which a blank label field is by document 01
+// kept: whole is a truth beside the length: where literals aren't whole the kind is judged by 4 all the same, and by 5 only then
 #[derive(Clone, Copy)]
 pub struct PackedStatement {
     pub label: u64,
@@ -37,6 +38,7 @@ pub struct PackedStatement {
 
 // an entry of the deck, a statement or else a comment or blank line; whether it is sound, how many lines it has and where the next one starts
 // kept: Joining has some of this too, of a statement under way: an entry is what it comes to, with its label and no packing
+// kept: sound is a truth, and gather's answer no Result: the second pass takes the entries of an accepted deck and doesn't ask
 #[derive(Clone, Copy)]
 pub struct Gathered {
     pub statement: Option<PackedStatement>,
@@ -119,7 +121,7 @@ impl Joining {
         ensures { JoinedAll deck.now text.old self text.new result }
     {
         let mut s = self;
-        // kept: from line to line, which counts nothing: column 9 of each says whether one more is joined
+        // kept: no range: column 9 of each line says whether one more is joined, and each says where the next begins
         while s.more {
             s = s.join_line(deck, text);
         }
@@ -128,7 +130,8 @@ impl Joining {
 }
 
 // the entry that starts with the line at from; of a statement its packed text is in text
-// kept: the packed text is the front of one buffer for all entries, in fixed memory: its length goes along
+// kept: the text is the front of one array for all entries: each byte is written, then counted or not (step); a push would be asked for each byte
+// whether it is kept and whether there is room
 pub fn gather(deck: &[u8], from: usize, text: &mut [u8; DECK]) -> Gathered
     requires { Readable deck.now from text.old }
     ensures { Gathers deck.now from text.new result }

@@ -30,7 +30,7 @@ fn none_refused(line: &[u8]) -> bool
     ensures { result ≡ all (λ b. not (is_refused (class_of b))) line.now }
 {
     line.iter()
-        .fold(true, |within, b| within & ((32 <= *b) & (*b <= 126)))
+        .fold(true, |within, b| within & ((b' ' <= *b) & (*b <= b'~')))
 }
 
 // whether 3 finds the line sound: at most 80 bytes, none of them refused

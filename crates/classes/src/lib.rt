@@ -8,7 +8,7 @@ ghost use Rattle.classes.specs.Numbers.{class_number};
 ghost use Rattle.values.specs.Conversion.{is_digit_or_blank};
 
 // the number of each class
-// kept: numbers, as in document 01's table of 256 (F7): an enum would have these six names and, for its contract, the same class_number
+// kept: numbers: document 01 asks for a table of 256 numbers (F7), and an enum would have these six names and the same class_number as its contract
 const LETTER: u8 = 0;
 
 const DIGIT: u8 = 1;
@@ -23,7 +23,7 @@ const OTHER: u8 = 4;
 const REFUSED: u8 = 5;
 
 // the class of each byte
-const CLASSES: [u8; 256] = [
+static CLASSES: [u8; 256] = [
     // 0 to 15
     REFUSED, REFUSED, REFUSED, REFUSED, REFUSED, REFUSED, REFUSED, REFUSED, REFUSED, REFUSED,
     REFUSED, REFUSED, REFUSED, REFUSED, REFUSED, REFUSED,
@@ -101,13 +101,14 @@ pub fn is_letter_or_digit(b: u8) -> bool
     (class == LETTER) | (class == DIGIT)
 }
 
+// the table's own question: a card's bytes are looked at together, by their range
 pub fn is_refused(b: u8) -> bool
     ensures { result ≡ is_refused (class_of b) }
 {
     class_of(b) == REFUSED
 }
 
-// It compares, since it is asked of every byte of a card, and a constant array is laid out anew wherever it is read. The table says the same.
+// It compares, since it is asked of every byte of a card. The table says the same.
 pub fn is_blank(b: u8) -> bool
     ensures { result ≡ is_blank b }
 {

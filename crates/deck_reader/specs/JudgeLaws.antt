@@ -27,7 +27,7 @@ use Rattle.symbols.specs.Environment.{places_in}
 use Rattle.symbols.specs.declared.Cursor.{Cursor}
 use Rattle.symbols.specs.declared.Mentioned.{Mentioned}
 use Rattle.symbols.specs.declared.known.Symbols.{Symbols}
-use Rattle.name_checks.specs.Arrays.{entries_from}
+use Rattle.name_checks.specs.Shown.{entries_from}
 use Rattle.name_checks.specs.HoldLaws.{entries-noted}
 use Rattle.card_reader.specs.Letters.{letters}
 use Rattle.card_reader.specs.Packs.{longest_text}

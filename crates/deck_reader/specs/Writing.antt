@@ -9,6 +9,7 @@ use Rattle.std.proofs.Math.ListN.{length, length-append}
 use Rattle.std.proofs.lemmas.List.{length-replicate, replicate-append-replicate}
 use Rattle.base.specs.Current.{current, table_size}
 use Rattle.base.specs.Limits as Limits
+use Rattle.encoding.specs.declared.cells.Counts.{Counts}
 use Rattle.encoding.specs.Numerals.{in_bytes}
 use Rattle.encoding.specs.RowLaws.{length-row_bytes}
 use Rattle.encoding.specs.Rules.{is_program}
@@ -108,6 +109,10 @@ counted w (s ∷ ss) =
             length-append (all_literals (elements_of y)) (all_literals (all_elements ss)),
           );
     }
+
+-- so much is counted as written to a table
+abbrev pub counted_by : Counts → List ℕ → Written
+counted_by n t = record { table = t; steps = n.steps; elements = n.elements; items = n.items; literals = n.literals }
 
 -- the header: the format and the counts of steps, strings, numbers, elements, items, literal bytes
 unfoldable pub with_header : Written → (strings numbers : ℕ) → List ℕ

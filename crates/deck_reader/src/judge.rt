@@ -1,7 +1,6 @@
 // The first pass over a deck: its entries judged one after the other by 3 to 10, then the deck by 11 and 12.
 // Assumes nothing.
-ghost use Rattle.std.specs.Prelude.{true, ◌≡◌, ◌≤◌, length};
-ghost use Rattle.base.specs.Limits.{longest_deck};
+ghost use Rattle.std.specs.Prelude.{true, ◌≡◌};
 ghost use Rattle.validation.specs.Environment.{empty_environment};
 ghost use Rattle.validation.specs.RefusalNumbers.{judged_number};
 ghost use Rattle.link_checks.specs.Held.{Closable};
@@ -9,6 +8,7 @@ ghost use Rattle.symbols.specs.Holding.{SymbolsHold};
 ghost use Rattle.deck_reader.specs.Verdicts.{verdict_of};
 ghost use Rattle.deck_reader.specs.Judging.{start_at, Readied, Entered, PackedNumbered, EntryNumbered, ended_in, closed_in, StatementsJudged, DeckJudged};
 
+use crate::Deck;
 use base::DECK;
 use card_reader::{Gathered, PackedStatement, gather};
 use encoding::TABLE_SIZE;
@@ -22,10 +22,19 @@ use validation::Refusal;
 
 // why a deck is refused, and the card of the entry at which it is; 0 for END that is missing, and for 11 and 12
 // kept: card 0 for none, as document 01 and C have it
-#[derive(Clone, Copy, PartialEq, Eq)]
+#[derive(Clone, Copy)]
 pub struct Refused {
     pub refusal: Refusal,
     pub card: usize,
+}
+
+impl Refused {
+    // of the deck as a whole
+    fn of_deck(refusal: Refusal) -> Refused
+        ensures { result ≡ record { refusal = refusal; card = 0 } }
+    {
+        Refused { refusal, card: 0 }
+    }
 }
 
 // the cursor before a statement
@@ -36,7 +45,7 @@ pub fn start(known: &Known) -> Cursor
 }
 
 // judges a sound statement by its packed text; if it passes the symbol table holds the environment behind it
-// kept: buffers one by one, here, in steps and in lib: of names and table the checks take the names alone, so a struct would be taken apart
+// kept: buffers one by one, here, in steps and in lib, as the parsers take them (numeric_parser/operands): text is read while the others are written
 fn judge_packed(
     text: &[u8],
     packed: PackedStatement,
@@ -52,18 +61,8 @@ fn judge_packed(
         return Err(Refusal::Misplaced);
     }
     let c = start(&symbols.known);
-    let form = read_statement(
-        text,
-        packed.label,
-        packed.whole,
-        &symbols.known,
-        table,
-        mentioned,
-        c,
-    );
-    let Some((_, d)) = form else {
-        return Err(Refusal::BadForm);
-    };
+    let form = read_statement(text, packed, &symbols.known, table, mentioned, c);
+    let (_, d) = form.ok_or(Refusal::BadForm)?;
     judge_statement(symbols, mentioned, d, kind)
 }
 
@@ -94,29 +93,25 @@ fn ended(known: &Known) -> Result<(), Refused>
     if known.ended {
         return Ok(());
     }
-    Err(Refused {
-        refusal: Refusal::Misplaced,
-        card: 0,
-    })
+    Err(Refused::of_deck(Refusal::Misplaced))
 }
 
 // judges the deck's entries one after the other, and whether END is there
 fn judge_statements(
-    deck: &[u8],
+    deck: Deck,
     symbols: &mut Symbols,
     text: &mut [u8; DECK],
     mentioned: &mut Mentioned,
     table: &mut [u8; TABLE_SIZE],
 ) -> Result<(), Refused>
-    requires symbols_hold { SymbolsHold symbols.old 0 empty_environment }
-    requires deck_len_bound { length deck.now ≤ longest_deck }
-    ensures { StatementsJudged deck.now (verdict_of result) symbols.new }
+    requires { SymbolsHold symbols.old 0 empty_environment }
+    ensures { StatementsJudged deck.entry.bytes.now (verdict_of result) symbols.new }
 {
     let mut from: usize = 0;
     let mut card: usize = 1;
     // kept: from entry to entry: each says where the next begins and how many cards it has
-    while from < deck.len() {
-        let e = gather(deck, from, text);
+    while from < deck.bytes.len() {
+        let e = gather(deck.bytes, from, text);
         let judged = judge_gathered(text, e, symbols, mentioned, table);
         judged.map_err(|refusal| Refused { refusal, card })?;
         card += e.lines;
@@ -131,31 +126,24 @@ fn closed(symbols: &Symbols) -> Result<(), Refused>
     ensures { verdict_of result ≡ closed_in symbols.now }
 {
     if undefined_or_crossing(symbols) {
-        return Err(Refused {
-            refusal: Refusal::BadLink,
-            card: 0,
-        });
+        return Err(Refused::of_deck(Refusal::BadLink));
     }
     if executes_itself(symbols) {
-        return Err(Refused {
-            refusal: Refusal::Recursion,
-            card: 0,
-        });
+        return Err(Refused::of_deck(Refusal::Recursion));
     }
     Ok(())
 }
 
 // judges the whole deck
 pub fn judge_deck(
-    deck: &[u8],
+    deck: Deck,
     symbols: &mut Symbols,
     text: &mut [u8; DECK],
     mentioned: &mut Mentioned,
     table: &mut [u8; TABLE_SIZE],
 ) -> Result<(), Refused>
-    requires symbols_hold { SymbolsHold symbols.old 0 empty_environment }
-    requires deck_len_bound { length deck.now ≤ longest_deck }
-    ensures { DeckJudged deck.now (verdict_of result) symbols.new }
+    requires { SymbolsHold symbols.old 0 empty_environment }
+    ensures { DeckJudged deck.entry.bytes.now (verdict_of result) symbols.new }
 {
     judge_statements(deck, symbols, text, mentioned, table)?;
     closed(symbols)

@@ -6,7 +6,7 @@ pub mod judge;
 pub mod steps;
 pub mod table;
 
-ghost use Rattle.std.specs.Prelude.{◌≡◌, ◌≤◌, length};
+ghost use Rattle.std.specs.Prelude.{◌≤◌, length};
 ghost use Rattle.base.specs.Current.{current, table_size};
 ghost use Rattle.base.specs.Limits.{longest_deck};
 ghost use Rattle.calls.specs.Promises.{ReadPromise, read_back};
@@ -16,6 +16,7 @@ ghost use Rattle.deck_reader.specs.Reading.{TableWritten, DeckRead};
 
 use base::DECK;
 use encoding::TABLE_SIZE;
+use encoding::cells::Counts;
 use judge::{Refused, judge_deck};
 use steps::write_steps;
 use store::spans::{blank, write};
@@ -24,27 +25,40 @@ use symbols::tags::{Purpose, Tag};
 use symbols::{Mentioned, NAMES};
 use table::put_header;
 
+// a deck no longer than it may be
+#[derive(Clone, Copy)]
+pub struct Deck<'a> {
+    pub bytes: &'a [u8],
+    pub ghost short: { length bytes.now ≤ longest_deck },
+}
+
 // writes the steps of an accepted deck and its header
 fn write_table(
-    deck: &[u8],
+    deck: Deck,
     known: &mut Known,
     text: &mut [u8; DECK],
     mentioned: &mut Mentioned,
     table: &mut [u8; TABLE_SIZE],
 )
-    requires deck_accepted { DeckAccepted deck.now known.old }
-    requires deck_len_bound { length deck.now ≤ longest_deck }
-    ensures { TableWritten deck.now known.old table.old table.new }
+    requires { DeckAccepted deck.bytes.now known.old }
+    ensures { TableWritten deck.entry.bytes.now known.old table.old table.new }
 {
     let p = write_steps(deck, known, text, mentioned, table);
-    put_header(table, p, known.strings.len(), known.numbers.len());
+    let counts = Counts {
+        steps: p.steps,
+        strings: known.strings.len(),
+        numbers: known.numbers.len(),
+        elements: p.elements,
+        items: p.items,
+        literals: p.literals,
+    };
+    put_header(table, counts);
 }
 
-// reads a deck of a sound size into a table of a sound size
-// kept: a deck is a slice, as C lends it: the call turns a longer one down, and those behind it ask for its length
-fn read_deck(deck: &[u8], table: &mut [u8]) -> Result<(), Refused>
-    requires { (length deck.now ≤ longest_deck) × (table_size ≤ length table.old) }
-    ensures { DeckRead deck.now table.old (verdict_of result) table.new }
+// reads a deck into a table of a sound size
+fn read_deck(deck: Deck, table: &mut [u8]) -> Result<(), Refused>
+    requires { table_size ≤ length table.old }
+    ensures { DeckRead deck.entry.bytes.now table.old (verdict_of result) table.new }
 {
     let mut symbols = Symbols {
         known: Known::new(),
@@ -68,6 +82,7 @@ fn read_deck(deck: &[u8], table: &mut [u8]) -> Result<(), Refused>
     let mut image = [0u8; TABLE_SIZE];
     blank(table, 0, TABLE_SIZE);
     judge_deck(deck, &mut symbols, &mut text, &mut mentioned, &mut image)?;
+    // the first pass wrote rows into it
     image = [0; TABLE_SIZE];
     write_table(
         deck,
@@ -92,7 +107,7 @@ pub fn strigol_read(deck: &[u8], table: &mut [u8], card: &mut u32) -> u32
     if table.len() < TABLE_SIZE {
         return 2;
     }
-    match read_deck(deck, table) {
+    match read_deck(Deck { bytes: deck }, table) {
         Ok(()) => 0,
         Err(refused) => {
             *card = refused.card as u32;

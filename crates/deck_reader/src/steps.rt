@@ -1,13 +1,13 @@
 // The second pass over an accepted deck: each statement read again, its step written.
 // Assumes nothing.
 ghost use Rattle.std.specs.Prelude.{◌≡◌, ◌≤◌, ◌<◌, length};
-ghost use Rattle.base.specs.Limits.{longest_deck};
 ghost use Rattle.symbols.specs.Clauses.{names_room};
 ghost use Rattle.card_reader.specs.Letters.{letters};
 ghost use Rattle.card_reader.specs.Packs.{longest_text};
 ghost use Rattle.deck_reader.specs.Steps.{CountsSmall, Writable, cursor_before, PackedWritten, GatheredWritten, StepWritten, DeckAccepted};
 ghost use Rattle.deck_reader.specs.StepsLaws.{DeckWritten};
 
+use crate::Deck;
 use crate::table::put_row;
 use base::DECK;
 use card_reader::{PackedStatement, gather};
@@ -17,7 +17,7 @@ use symbols::known::Known;
 use symbols::{Cursor, Mentioned};
 
 // where the second pass is: the next line and its card; how many steps, elements, items and literal bytes are written
-// kept: that the counts are small is no ghost field: in a struct with one `..p` can't be written
+// kept: that the counts are small is no ghost field: `..p` is refused in a struct with one
 #[derive(Clone, Copy)]
 pub struct Progress {
     pub from: usize,
@@ -50,7 +50,7 @@ fn write_packed(
     ensures { PackedWritten text.now known.now packed p table.old result table.new }
 {
     let c = p.cursor();
-    match read_statement(text, packed.label, packed.whole, known, table, mentioned, c) {
+    match read_statement(text, packed, known, table, mentioned, c) {
         None => p,
         Some((None, _)) => p,
         Some((Some(row), d)) => {
@@ -90,17 +90,17 @@ fn write_gathered(
 
 // writes the step of the entry that starts with the line where p is
 fn write_entry(
-    deck: &[u8],
+    deck: Deck,
     p: Progress,
     known: &mut Known,
     text: &mut [u8; DECK],
     mentioned: &mut Mentioned,
     table: &mut [u8; TABLE_SIZE],
 ) -> Progress
-    requires { CountsSmall p × (p.from < length deck.now) × (length deck.now ≤ longest_deck) }
-    ensures { StepWritten deck.now known.old p table.old result known.new table.new }
+    requires { CountsSmall p × (p.from < length deck.bytes.now) }
+    ensures { StepWritten deck.entry.bytes.now known.old p table.old result known.new table.new }
 {
-    let e = gather(deck, p.from, text);
+    let e = gather(deck.bytes, p.from, text);
     let written = write_gathered(text, e.statement, p, known, mentioned, table);
     Progress {
         from: e.next,
@@ -111,15 +111,14 @@ fn write_entry(
 
 // writes the steps of an accepted deck
 pub fn write_steps(
-    deck: &[u8],
+    deck: Deck,
     known: &mut Known,
     text: &mut [u8; DECK],
     mentioned: &mut Mentioned,
     table: &mut [u8; TABLE_SIZE],
 ) -> Progress
-    requires deck_accepted { DeckAccepted deck.now known.old }
-    requires deck_len_bound { length deck.now ≤ longest_deck }
-    ensures { DeckWritten deck.now known.old table.old result known.new table.new }
+    requires { DeckAccepted deck.bytes.now known.old }
+    ensures { DeckWritten deck.entry.bytes.now known.old table.old result known.new table.new }
 {
     let mut p = Progress {
         from: 0,
@@ -130,7 +129,7 @@ pub fn write_steps(
         literals: 0,
     };
     // kept: from entry to entry, as in the first pass
-    while p.from < deck.len() {
+    while p.from < deck.bytes.len() {
         p = write_entry(deck, p, known, text, mentioned, table);
     }
     p

@@ -4,12 +4,10 @@ ghost use Rattle.std.specs.Prelude.{◌≡◌, ◌+◌, ◌≤◌, length};
 ghost use Rattle.encoding.specs.Meaning.{row_meaning, cell_meaning};
 ghost use Rattle.encoding.specs.Splices.{splice};
 ghost use Rattle.encoding.specs.Table.{cell_bytes};
-ghost use Rattle.deck_reader.specs.Steps.{written_at};
-ghost use Rattle.deck_reader.specs.Writing.{with_row, with_header};
+ghost use Rattle.deck_reader.specs.Writing.{counted_by, with_row, with_header};
 
-use crate::steps::Progress;
 use base::STEPS;
-use encoding::cells::{Cell, Row};
+use encoding::cells::{Cell, Counts, Row};
 use encoding::{STEP_ROW, STEPS_AT, TABLE_SIZE};
 use symbols::{put_cell, put_number};
 
@@ -39,15 +37,15 @@ pub fn put_row(table: &mut [u8; TABLE_SIZE], k: usize, card: usize, row: Row)
 
 // writes the header: the format and the six counts
 // kept: a call for each count, since a loop over an array of them takes an invariant and two laws more
-pub fn put_header(table: &mut [u8; TABLE_SIZE], p: Progress, strings: usize, numbers: usize)
-    ensures { table.new ≡ with_header (written_at p table.old) strings numbers }
+pub fn put_header(table: &mut [u8; TABLE_SIZE], n: Counts)
+    ensures { table.new ≡ with_header (counted_by n table.old) n.strings n.numbers }
 {
     table[0] = 1;
     table[1] = 0;
-    put_number(table, 2, 2, p.steps);
-    put_number(table, 4, 2, strings);
-    put_number(table, 6, 2, numbers);
-    put_number(table, 8, 2, p.elements);
-    put_number(table, 10, 2, p.items);
-    put_number(table, 12, 2, p.literals);
+    put_number(table, 2, 2, n.steps);
+    put_number(table, 4, 2, n.strings);
+    put_number(table, 6, 2, n.numbers);
+    put_number(table, 8, 2, n.elements);
+    put_number(table, 10, 2, n.items);
+    put_number(table, 12, 2, n.literals);
 }

@@ -1,18 +1,20 @@
 -- What a cell stands for, kind by kind. Assumes nothing.
 use mathlib.Core.List.{List}
 use mathlib.Core.Path.{◌≡◌, refl, sym, ◌∙◌, ap}
-use Prim.Native.Nat.{ℕ, ◌+◌, ◌-◌}
+use Prim.Native.Nat.{ℕ, ◌+◌, ◌-◌, ◌≤◌}
+use lib.Dec.{eqb}
 use native.Mathlib.Omega.{arith}
-use borrow.Author.Tests.{eq-eqb, ne_eqb}
+use borrow.Author.Tests.{eq-eqb, ne_eqb, eqb-false}
+use Rattle.base.specs.Choice.{cond_cases}
 use Rattle.syntax.specs.Program as Program
-use Rattle.encoding.specs.Kinds.{parts, number_of_parts, operator_number, sign_number, constant_kind, number_kind, length_kind}
+use Rattle.encoding.specs.Kinds.{item_kinds, parts, number_of_parts, operator_number, sign_number, constant_kind, number_kind, length_kind}
 use Rattle.encoding.specs.Kinds.{literal_kind, text_kind, text_by_kind, free_kind, fixed_kind, fixed_by_kind}
 use Rattle.encoding.specs.Numerals.{unbiased}
 use Rattle.encoding.specs.Table.{Cell, literals_at}
-use Rattle.encoding.specs.TableReading.{part_of_cell, operand_of_cell, item_of_cell, element_of_cell, pattern_of_cell}
+use Rattle.encoding.specs.TableReading.{read_cell, payload_in, part_of_cell, operand_of_cell, item_of_cell, element_of_cell, pattern_of_cell}
 use Rattle.numbers.specs.declared.Int.{Int}
 use Rattle.decoder.specs.Meaning.{part_meaning, operand_meaning, item_meaning}
-use Rattle.decoder.specs.Reading.{StretchRead, ElementDecoded, PatternRead}
+use Rattle.decoder.specs.Reading.{operator_of_kind, StretchRead, ElementDecoded, PatternRead}
 use Rattle.decoder.specs.ReadingLaws.{operand_number_of, item_operand, element_part, pattern_value}
 use Rattle.decoder.specs.declared.Length.TheVariants as lengths
 use Rattle.decoder.specs.declared.Part as Part
@@ -112,6 +114,21 @@ module _ (c : Cell) where
       let value = pattern_value c t (ne_eqb c.kind free_kind.number h) (ne_eqb c.kind fixed_kind.number g)
       (ne_eqb c.kind fixed_by_kind.number k) in
       record { means = ap Program.value e.means ∙ sym value; ends = e.ends }
+
+  -- an item of a kind of operators
+  pub operator_item : operator_number Program.plus ≤ c.kind → c.kind ≤ operator_number Program.over
+      → Program.operator (operator_of_kind c.kind) ≡ item_of_cell c
+  unfolding item_of_cell operator_of_kind read_cell item_kinds payload_in operator_number
+  operator_item low high =
+      let is : Program.Item → Type 0 = λ x. Program.operator (operator_of_kind c.kind) ≡ x in
+      cond_cases is (eqb c.kind 16) (λ h. rw h)
+      (λ h.
+      cond_cases is (eqb c.kind 17) (λ g. rw (h, g))
+      (λ g.
+      cond_cases is (eqb c.kind 18) (λ k. rw (h, g, k))
+      (λ k.
+      let last : c.kind ≡ 19 = omega (arith, eqb-false c.kind 16 h, eqb-false c.kind 17 g, eqb-false c.kind 18 k) in
+      rw (h, g, k, eq-eqb c.kind 19 last))))
 
   -- an item that is none of an operator or a sign
   pub operand_item : (a : Operand.Operand) → (c.kind ≡ operator_number Program.plus → ⊥) → (c.kind ≡ operator_number Program.minus → ⊥)

@@ -10,15 +10,15 @@ use Rattle.encoding.specs.Kinds as Kinds
 use Rattle.encoding.specs.Kinds.{parts, both_steps, pattern_right}
 use Rattle.encoding.specs.Table.{Row}
 use Rattle.encoding.specs.TableReading.{part_of_cell, operand_of_cell, comparison_of, direction_of, steps_in, right_in, statement_of_row}
-use Rattle.encoding.specs.Meaning.{branch_meaning, row_meaning}
+use Rattle.encoding.specs.Meaning.{branch_meaning, row_meaning, direction_meaning}
 use Rattle.encoding.specs.declared.cells.Row as Cells
-use Rattle.decoder.specs.Meaning.{part_meaning, direction_meaning, patterns_meaning, replacement_meaning}
+use Rattle.decoder.specs.Meaning.{part_meaning, patterns_meaning, replacement_meaning}
 use Rattle.decoder.specs.Reading.{StretchRead, BehindRead, ReplacementDecoded, IfDecoded, ScanDecoded, StatementDecoded}
 use Rattle.decoder.specs.declared.Part.{Part}
 use Rattle.encoding.specs.declared.cells.Branch.{Branch}
 use Rattle.decoder.specs.declared.Stretch.{Stretch}
 use Rattle.decoder.specs.declared.If.{If}
-use Rattle.decoder.specs.declared.Direction.TheVariants.{Forward, Backward}
+use Rattle.encoding.specs.declared.cells.Direction.TheVariants.{Forward, Backward}
 use Rattle.decoder.specs.declared.Scan as Scan
 use Rattle.decoder.specs.declared.Statement.TheVariants as statements
 

@@ -36,8 +36,8 @@ use Rattle.decoder.specs.Holds.{ItemsHold, ElementsHold, PatternsHold, Replaceme
 use Rattle.decoder.specs.Holds.{StretchHas, searched_place, BranchHolds, ScanHolds, StatementHolds}
 use Rattle.decoder.specs.HoldsLaws.{place_is, is_other, roles_others, below-strings, part_holds_lem, item_holds_lem, text_holds, free_holds, fixed_holds}
 use Rattle.decoder.specs.HoldsLaws.{branch-holds, if_holds}
-use Rattle.decoder.specs.Meaning.{part_meaning, element_meaning, pattern_meaning, items_meaning, elements_meaning, direction_meaning}
-use Rattle.encoding.specs.Meaning.{branch_meaning}
+use Rattle.decoder.specs.Meaning.{part_meaning, element_meaning, pattern_meaning, items_meaning, elements_meaning}
+use Rattle.encoding.specs.Meaning.{direction_meaning, branch_meaning}
 use Rattle.decoder.specs.Meaning.{patterns_meaning, replacement_meaning, statement_meaning}
 use Rattle.decoder.specs.Reading.{ElementDecoded, PatternRead, StretchRead, ReplacementDecoded, ScanStretches, StretchesRead, StatementDecoded}
 use Rattle.decoder.specs.ReadingLaws.{element_cases, pattern_cases}

@@ -21,11 +21,9 @@ use Rattle.decoder.specs.declared.Element.{Element}
 use Rattle.decoder.specs.declared.Element.TheVariants as elements
 use Rattle.decoder.specs.declared.PatternElement.{PatternElement}
 use Rattle.decoder.specs.declared.PatternElement.TheVariants.{Value, Free, Fixed}
-use Rattle.encoding.specs.Meaning.{branch_meaning}
+use Rattle.encoding.specs.Meaning.{branch_meaning, direction_meaning}
 use Rattle.decoder.specs.declared.Stretch.{Stretch}
 use Rattle.decoder.specs.declared.If.{If}
-use Rattle.decoder.specs.declared.Direction.{Direction}
-use Rattle.decoder.specs.declared.Direction.TheVariants.{Forward, Backward}
 use Rattle.decoder.specs.declared.Statement.{Statement}
 use Rattle.decoder.specs.declared.Statement.TheVariants as statements
 
@@ -82,10 +80,6 @@ patterns_meaning t s = read_pattern t s.from s.count
 -- what an IF of two operands asks
 abbrev pub if_meaning : If → Program.Test
 if_meaning x = Program.compares (operand_meaning x.left) (comparison_meaning x.sign) (operand_meaning x.right)
-
-abbrev pub direction_meaning : Direction → Program.Direction
-direction_meaning Forward = Program.forward
-direction_meaning Backward = Program.backward
 
 abbrev pub replacement_meaning : List ℕ → Prelude.Option Stretch → Option (List Program.Element)
 replacement_meaning t None = none

@@ -1,16 +1,16 @@
 -- What the code reads from a table's bytes: the enums stand for what the table's reading says, and stretches and literals lie where their
 -- ranges say. Assumes nothing.
-use Rattle.std.specs.Prelude.{Option, Some, None, cond, List, ◌≡◌, ℕ, ◌+◌, ◌<◌, ◌^◌, eqb}
+use Rattle.std.specs.Prelude.{Bool, Option, Some, None, cond, List, ◌≡◌, ℕ, ◌+◌, ◌<◌, ◌^◌, eqb, leb}
 use Rattle.syntax.specs.Program.{Operator, plus, minus, times, over}
-use Rattle.encoding.specs.Kinds.{operator_number, parts, both_steps}
+use Rattle.encoding.specs.Kinds.{constant_kind, operator_number, parts, both_steps}
 use Rattle.encoding.specs.Numerals.{numeral_at}
 use Rattle.encoding.specs.Table as Table
 use Rattle.encoding.specs.Table.{literals_at}
 use Rattle.encoding.specs.TableReading.{cell_at, read_row_at, range_from, range_count, range_more, element_of_cell, pattern_of_cell, comparison_of}
 use Rattle.encoding.specs.TableReading.{direction_of, operand_of_cell, part_of_cell, steps_in, statement_of_row}
 use Rattle.numbers.specs.Numbers.{comparison_meaning}
-use Rattle.encoding.specs.Meaning.{cell_meaning, row_meaning, branch_meaning}
-use Rattle.decoder.specs.Meaning.{part_meaning, operand_meaning, element_meaning, pattern_meaning, direction_meaning, statement_meaning}
+use Rattle.encoding.specs.Meaning.{cell_meaning, row_meaning, branch_meaning, direction_meaning}
+use Rattle.decoder.specs.Meaning.{part_meaning, operand_meaning, element_meaning, pattern_meaning, statement_meaning}
 use Rattle.encoding.specs.declared.cells.Cell.{Cell}
 use Rattle.encoding.specs.declared.cells.Row.{Row}
 use Rattle.encoding.specs.declared.cells.Counts.{Counts}
@@ -49,6 +49,10 @@ abbrev pub EndsRead : ℕ → Element → Type 0
 EndsRead range (Literal from to) = (from ≡ literals_at + range_from range) × (to ≡ literals_at + range_from range + range_count range)
 EndsRead range (Part p) = Unit {0}
 EndsRead range (Text n m) = Unit {0}
+
+-- whether a kind is one of operands, which come behind those of operators and signs
+abbrev pub is_operand_kind : ℕ → Bool
+is_operand_kind k = leb constant_kind.number k
 
 -- the operator of a kind, over for any that is none of the others'
 unfoldable pub operator_of_kind : ℕ → Operator

@@ -4,25 +4,22 @@
 
 ghost use Rattle.std.specs.Prelude.{List, ◌≡◌, ℕ, ◌+◌, ◌*◌, ◌≤◌, ◌<◌, ◌^◌, length};
 ghost use Rattle.base.specs.Current.{table_size};
-ghost use Rattle.encoding.specs.Numerals.{numeral_at, unbiased};
+ghost use Rattle.encoding.specs.Numerals.{numeral_at};
 ghost use Rattle.encoding.specs.Table.{steps_at, elements_at, items_at};
 ghost use Rattle.encoding.specs.TableReading.{cell_at, read_row_at, part_of_cell, operand_of_cell, item_of_cell, comparison_of, direction_of};
 ghost use Rattle.numbers.specs.Numbers.{comparison_meaning};
-ghost use Rattle.encoding.specs.Meaning.{cell_meaning, row_meaning};
-ghost use Rattle.decoder.specs.Meaning.{part_meaning, operand_meaning, operator_meaning, item_meaning, direction_meaning};
-ghost use Rattle.decoder.specs.Reading.{operator_of_kind, CellDecoded, RowDecoded, SmallRow, StretchRead, BehindRead, ElementDecoded, PatternRead};
-ghost use Rattle.decoder.specs.Reading.{IfDecoded, ScanDecoded, StatementDecoded, CountsRead};
+ghost use Rattle.encoding.specs.Meaning.{cell_meaning, row_meaning, direction_meaning};
+ghost use Rattle.decoder.specs.Meaning.{part_meaning, operand_meaning, operator_meaning, item_meaning};
+ghost use Rattle.decoder.specs.Reading.{is_operand_kind, operator_of_kind, CellDecoded, RowDecoded, SmallRow, StretchRead, BehindRead};
+ghost use Rattle.decoder.specs.Reading.{ElementDecoded, PatternRead, IfDecoded, ScanDecoded, StatementDecoded, CountsRead};
 
-use encoding::cells::{Branch, Cell, Counts, Row};
+use encoding::cells::{Branch, Cell, Counts, Direction, Row};
 use encoding::{
     ELEMENTS_AT, ITEMS_AT, LITERALS_AT, RANGE_MORE, RANGE_STEP, STEP_ROW, STEPS_AT, TABLE_CELL,
     cell_kinds, step_kinds,
 };
-use numbers::{Comparison, Int};
+use numbers::{Comparison, Int, unbiased};
 use store::spans::number2;
-
-// an integer is kept as a number with this much added
-const BIAS: i64 = encoding::BIAS as i64;
 
 // kept: that places and constants are in range (PartHolds and so on) is no ghost field of the types below: any table is decoded, not only one
 // that keeps its rules; so those who use what was decoded ask for it
@@ -41,7 +38,7 @@ pub enum Part {
     First(usize, Length),
 }
 
-// a number by its place, which a byte holds
+// an operand of an expression or of IF; the place of a number is a byte, as a cell has it
 #[derive(Clone, Copy)]
 pub enum Operand {
     Constant(Int),
@@ -88,24 +85,20 @@ pub enum PatternElement {
 }
 
 // so many items or elements, from a place among all of them on
+// kept: loops write from..from + count: a range that a method answers was tried, and the loop's invariant then knows an iterator, no place (loop-at)
 #[derive(Clone, Copy)]
 pub struct Stretch {
     pub from: usize,
     pub count: usize,
 }
 
-// IF with two operands and a sign; if the sign stood between them, the compiled run would tell a step's kind twice
+// IF with two operands and a sign
+// kept: a struct of its own in Statement, as document 01 has it (F11)
 #[derive(Clone, Copy)]
 pub struct If {
     pub left: Operand,
     pub right: Operand,
     pub sign: Comparison,
-}
-
-#[derive(Clone, Copy)]
-pub enum Direction {
-    Forward,
-    Backward,
 }
 
 // SCAN or BACKSCAN
@@ -135,21 +128,12 @@ pub enum Statement {
 }
 
 // a number of 6 bytes
+// kept: of number2: from_le_bytes of these six and two zeros would want a law that the zeros count nothing
 pub fn number6(t: &[u8], at: usize) -> usize
     requires { at + 6 ≤ length t.now }
     ensures { (result ≡ numeral_at 6 t.now at) × (result < 2 ^ 48) }
 {
     number2(t, at) + 65_536 * (number2(t, at + 2) + 65_536 * number2(t, at + 4))
-}
-
-// the integer that a number of 6 bytes is kept for
-pub fn unbias(n: usize) -> Int
-    requires { n < 2 ^ 48 }
-    ensures { result.value ≡ unbiased n }
-{
-    Int {
-        value: (n as i64) - BIAS,
-    }
 }
 
 pub fn cell_at(t: &[u8], at: usize) -> Cell
@@ -163,7 +147,7 @@ pub fn cell_at(t: &[u8], at: usize) -> Cell
     }
 }
 
-// a string, or its first bytes by a constant or by a number; the first of their three kinds is given
+// a string, or its first bytes by a constant or by a number: three kinds in a row, of which the first is given, as to part_of_cell
 // kept: functions and no From, here and in those below of a Cell: each asks that the value is below 2^48, which From doesn't
 fn part_of(first: u8, c: Cell) -> Part
     requires { (first ≤ 64) × (c.value < 2 ^ 48) }
@@ -175,7 +159,7 @@ fn part_of(first: u8, c: Cell) -> Part
         return Part::Whole(place);
     }
     if kind == first + 1 {
-        return Part::First(place, Length::Constant(unbias(c.value)));
+        return Part::First(place, Length::Constant(unbiased(c.value as u64)));
     }
     if kind == first + 2 {
         return Part::First(place, Length::Number(c.value));
@@ -188,7 +172,7 @@ fn operand_of(c: Cell) -> Operand
     ensures { operand_meaning result ≡ operand_of_cell (cell_meaning c) }
 {
     match c.kind {
-        cell_kinds::CONSTANT => Operand::Constant(unbias(c.value)),
+        cell_kinds::CONSTANT => Operand::Constant(unbiased(c.value as u64)),
         cell_kinds::NUMBER => Operand::Number(c.place),
         cell_kinds::LENGTH => Operand::LengthOf(c.place as usize),
         _ => Operand::NumberOf(part_of(cell_kinds::NUMBER_OF, c)),
@@ -212,10 +196,9 @@ fn item_of(c: Cell) -> Item
     ensures { item_meaning result ≡ item_of_cell (cell_meaning c) }
 {
     match c.kind {
-        cell_kinds::PLUS => Item::Operator(Operator::Plus),
-        cell_kinds::MINUS => Item::Operator(Operator::Minus),
-        cell_kinds::TIMES => Item::Operator(Operator::Times),
-        cell_kinds::OVER => Item::Operator(Operator::Over),
+        cell_kinds::PLUS | cell_kinds::MINUS | cell_kinds::TIMES | cell_kinds::OVER => {
+            Item::Operator(operator_of(c.kind))
+        }
         cell_kinds::POSITIVE => Item::Sign(Sign::Positive),
         cell_kinds::NEGATIVE => Item::Sign(Sign::Negative),
         _ => Item::Operand(operand_of(c)),
@@ -253,7 +236,10 @@ fn element_of(c: Cell) -> Element
             let s = stretch_of(c.value);
             Element::Literal(LITERALS_AT + s.from, LITERALS_AT + s.from + s.count)
         }
-        cell_kinds::TEXT => Element::Text(Length::Constant(unbias(c.value)), c.place as usize),
+        cell_kinds::TEXT => Element::Text(
+            Length::Constant(unbiased(c.value as u64)),
+            c.place as usize,
+        ),
         cell_kinds::TEXT_BY => Element::Text(Length::Number(c.value), c.place as usize),
         _ => Element::Part(part_of(cell_kinds::STRING, c)),
     }
@@ -267,7 +253,7 @@ fn pattern_of(c: Cell) -> PatternElement
         cell_kinds::FREE => PatternElement::Free(c.place as usize),
         cell_kinds::FIXED => PatternElement::Fixed(
             c.place as usize,
-            Length::Constant(unbias(c.value)),
+            Length::Constant(unbiased(c.value as u64)),
         ),
         cell_kinds::FIXED_BY => PatternElement::Fixed(c.place as usize, Length::Number(c.value)),
         _ => PatternElement::Value(element_of(c)),
@@ -276,7 +262,7 @@ fn pattern_of(c: Cell) -> PatternElement
 
 // item k of all items
 // kept: this, operand_at, element_at and pattern_at are a line each; one function of a region and of what a cell is would say no less at its calls
-// kept: k has its bound in a clause: a type for it would be made anew at each turn of the loops that count it
+// kept: k has its bound in a clause: a type for it would be made anew at each turn of the loops over such places
 pub fn item_at(t: &[u8], k: usize) -> Item
     requires { (table_size ≤ length t.now) × (k < 1024) }
     ensures { item_meaning result ≡ item_of_cell (cell_at t.now (items_at + 8 * k)) }
@@ -284,13 +270,20 @@ pub fn item_at(t: &[u8], k: usize) -> Item
     item_of(cell_at(t, ITEMS_AT + TABLE_CELL * k))
 }
 
-// the kind of item k of all items
-// kept: the number, here and in kind_at, as encoding/cell_kinds says: it is asked for alone, where the rest of the cell or row isn't
-pub fn item_kind(t: &[u8], k: usize) -> u8
+// whether item k of all items is an operand, where the table keeps its rules
+pub fn is_operand_at(t: &[u8], k: usize) -> bool
     requires { (table_size ≤ length t.now) × (k < 1024) }
-    ensures { result ≡ (cell_at t.now (items_at + 8 * k)).kind }
+    ensures { result ≡ is_operand_kind (cell_at t.now (items_at + 8 * k)).kind }
 {
-    t[ITEMS_AT + TABLE_CELL * k]
+    cell_kinds::CONSTANT <= t[ITEMS_AT + TABLE_CELL * k]
+}
+
+// item k of all items, which is an operator
+pub fn operator_at(t: &[u8], k: usize) -> Operator
+    requires { (table_size ≤ length t.now) × (k < 1024) }
+    ensures { operator_meaning result ≡ operator_of_kind (cell_at t.now (items_at + 8 * k)).kind }
+{
+    operator_of(t[ITEMS_AT + TABLE_CELL * k])
 }
 
 // item k of all items, which is an operand
@@ -333,7 +326,7 @@ pub fn row_at(t: &[u8], at: usize) -> Row
     }
 }
 
-// kept: functions, as direction_of and operator_of, and no From: by their definitions any other number is the last one
+// kept: a function, as direction_of and operator_of: the contract says it in one clause, where From has a ghost member for it
 fn comparison_of(flag: u8) -> Comparison
     ensures { comparison_meaning result ≡ comparison_of flag }
 {
@@ -412,6 +405,7 @@ fn statement_of(r: Row) -> Statement
 }
 
 // the kind of step k
+// kept: the number, as encoding/step_kinds says: it is asked for alone, where the rest of the row isn't
 pub fn kind_at(t: &[u8], k: usize) -> u8
     requires { (table_size ≤ length t.now) × (k < 256) }
     ensures { result ≡ (read_row_at t.now (steps_at + 24 * k)).kind }

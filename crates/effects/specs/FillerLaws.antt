@@ -7,7 +7,8 @@ use Rattle.std.proofs.Math.Path.{refl, sym, ap, ap₂, subst}
 use Rattle.std.proofs.Common.{◌∙◌, drop_of_length-le, ext_get_or, get_or-set_other, get_or-set_same, eqb-true, ltb-false, ltb-true, ne_eqb}
 use native.Mathlib.Omega.{arith}
 use Rattle.std.proofs.Math.Dec.{eqb}
-use Rattle.std.proofs.Math.ListN.{length, take, drop, get_or}
+use Rattle.std.proofs.Math.ListN.{length, take, drop, get_or, length-drop, length-take}
+use Rattle.std.proofs.lemmas.List.{get_or-take}
 use Rattle.std.proofs.Math.Seq.{drop-drop, set_out}
 use Rattle.std.proofs.lemmas.Bool.{eqb-false}
 use Rattle.base.specs.Choice.{test_cases}
@@ -123,6 +124,35 @@ next-length answer count i size few h =
     let long : length ls ≡ count = length_stretch answer 4 count (omega arith) in
     drop-next ls i 0 (omega arith) ∙ ap (λ (l : ℕ). l ∷ drop (i + 1) ls) (get_or_stretch answer 4 count i h)
 
+-- what a list has next at a place
+next_item : (xs : List ℕ) (k : ℕ) {x : ℕ} {rest : List ℕ} → drop k xs ≡ x ∷ rest → (k < length xs) × (x ≡ get_or xs k 0) × (rest ≡ drop (k + 1) xs)
+next_item xs k e =
+    let some : k < length xs = omega (arith, ap length e, length-drop k xs) in
+    let both = sym e ∙ drop-next xs k 0 some in
+    (some, ap (λ (l : List ℕ). get_or l 0 0) both, ap (drop 1) both)
+
+-- the next of the places and lengths of so many pieces, with those behind it
+pub record NextPiece (names answer : List ℕ) (count k name n : ℕ) (places lengths : List ℕ) : Type 0 where
+  pub below : k < count
+  pub name_is : name ≡ get_or names k 0
+  pub length_is : n ≡ get_or answer (4 + k) 0
+  pub places_are : places ≡ drop (k + 1) (take count names)
+  pub lengths_are : lengths ≡ drop (k + 1) (lengths_in answer 20)
+
+pub next_piece : (names answer : List ℕ) (count k : ℕ) {name n : ℕ} {places lengths : List ℕ} → drop k (take count names) ≡ name ∷ places
+    → drop k (lengths_in answer 20) ≡ n ∷ lengths → NextPiece names answer count k name n places lengths
+next_piece names answer count k p q =
+    let place = next_item (take count names) k p in
+    let size = next_item (lengths_in answer 20) k q in
+    let below : k < count = omega (arith, place.0, length-take count names) in
+    record {
+      below = below;
+      name_is = place.1 ∙ get_or-take count names k 0 below;
+      length_is = size.1 ∙ get_or_stretch answer 4 20 k (omega (arith, size.0, length-take 20 (drop 4 answer)));
+      places_are = place.2;
+      lengths_are = size.2;
+    }
+
 -- the pieces from i on are to be named, the first of them at a place of the reference
 pub record Namings (store reference names answer : List ℕ) (count at i : ℕ) (now : List ℕ) : Type 0 where
   pub stays : StoreStays store now
@@ -144,13 +174,13 @@ namings_none {store} {reference} {answer = answer} {count} p e =
           ap (λ (j : ℕ). naming vs (drop j reference) (lengths_in answer count) (memory_of store numbers)) (sym e);
     }
 
-module _ {store reference names answer : List ℕ} {count at i : ℕ} {now : List ℕ} (q : Nameable store reference names answer count)
-    (p : Namings store reference names answer count at i now) where
+module _ {store reference names answer : List ℕ} {count at i : ℕ} {now : List ℕ} (size : length answer ≡ 24)
+    (q : Nameable store reference names answer count) (p : Namings store reference names answer count at i now) where
   -- the next piece
   pub next_inside : i < count → at + (get_or answer (4 + i) 0 + total (λ l. l) (drop (i + 1) (lengths_in answer count))) ≤ length reference
   unfolding total
   next_inside h =
-      subst (λ (ls : List ℕ). at + total (λ l. l) ls ≤ length reference) (next-length answer count i q.size q.few h) p.inside
+      subst (λ (ls : List ℕ). at + total (λ l. l) ls ≤ length reference) (next-length answer count i size q.few h) p.inside
 
   pub namings_more : i < count → {l : ℕ} → l ≡ get_or answer (4 + i) 0 → {after : List ℕ}
       → after ≡ renamed now (get_or names i 0) (take (at + l - at) (drop at reference))
@@ -163,7 +193,7 @@ module _ {store reference names answer : List ℕ} {count at i : ℕ} {now : Lis
       let one : after ≡ renamed now (get_or names i 0) piece = is ∙ ap (renamed now (get_or names i 0)) (stretch_cut reference at l) in
       let behind : drop l (drop at reference) ≡ drop (at + l) reference = drop-drop l at reference in
       let lengths : drop i ls ≡ l ∷ drop (i + 1) ls =
-      next-length answer count i q.size q.few h ∙ ap (λ (x : ℕ). x ∷ drop (i + 1) ls) (sym e) in
+      next-length answer count i size q.few h ∙ ap (λ (x : ℕ). x ∷ drop (i + 1) ls) (sym e) in
       let rest : at + (l + total (λ x. x) (drop (i + 1) ls)) ≤ length reference =
       subst (λ (x : ℕ). at + (x + total (λ y. y) (drop (i + 1) ls)) ≤ length reference) (sym e) (next_inside h) in
       record {

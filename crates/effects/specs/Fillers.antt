@@ -47,7 +47,6 @@ pub record Nameable (store reference names answer : List ℕ) (count : ℕ) : Ty
   pub few : count ≤ 20
   pub places : count ≤ length names
   pub short : length reference ≤ 1024
-  pub size : length answer ≡ 24
   pub pieces : get_or answer 1 0 + total (λ l. l) (lengths_in answer count) ≤ length reference
 
 -- an element that names nothing: what lies behind the last of them

@@ -1,5 +1,5 @@
 -- Laws of what statements leave: a record read, a record put, a stretch of a string set. Assumes nothing.
-use Rattle.std.specs.Prelude.{Bool, true, ◌≡◌, leb, ℤ}
+use Rattle.std.specs.Prelude.{Option, Some, None, nat_abs, true, ◌≡◌, leb, ℤ}
 use Rattle.std.proofs.Math.Bool.{false, ◌||◌}
 use mathlib.Core.List.{List, [], ◌∷◌, ◌++◌}
 use Rattle.std.proofs.Math.Path.{refl, sym, ap, ap₂, subst}
@@ -10,16 +10,16 @@ use native.Mathlib.Omega.{arith}
 use Rattle.std.proofs.Math.Dec.{eqb}
 use Rattle.std.proofs.Math.ListN.{length, take, drop, set, length-append, length-drop, length-take}
 use Rattle.std.proofs.Math.Seq.{drop-drop, length-take-le, take_all}
-use borrow.Author.Tests.{eq-eqb, ne_eqb, le-leb, lt-leb, le-ltb, lt-ltb, leb-true, leb-false}
+use borrow.Author.Tests.{eq-eqb, ne_eqb, le-leb, lt-leb, leb-true, leb-false}
 use Rattle.base.specs.Choice.{test_cases, true_behind}
 use Rattle.base.specs.ListLaws.{nil_length, not_nil}
 use Rattle.base.specs.Lists.{is_nil}
 use Rattle.encoding.specs.BufferLaws.{StoreGood, good_image, good_short, store_with, with_good, with-splice, with-strings, length-image}
 use Rattle.encoding.specs.Buffers.{cell_image, store_image, store_size, strings_in}
-use Rattle.encoding.specs.Splices.{splice, behind-splice, length-splice, set-splice, splice-behind, take-written}
+use Rattle.encoding.specs.Splices.{splice, behind-splice, length-splice, take-written}
 use Rattle.cards.specs.Bytes.{newline}
 use Rattle.store.specs.Clauses.{string_of, string_replaced}
-use Rattle.numbers.specs.Numbers.{GivesInt}
+use Rattle.numbers.specs.Numbers.{GivesInt, GivesNatural}
 use Rattle.numbers.specs.declared.Int.{Int}
 use Rattle.machine.specs.Scanning.{storing}
 use Rattle.machine.specs.State.{State, going_to, with_input, with_output, with_string}
@@ -27,11 +27,14 @@ use Rattle.machine.specs.Step.{chosen, put_record, record_length, take_record}
 use Rattle.values.specs.Conversion.{longest_string}
 use Rattle.values.specs.Numbers.{is_negative}
 use Rattle.values.specs.Result.{done, stop, with_notes, pure}
-use Rattle.effects.specs.Leaving.{memory_of, StoreStays, Taking, RecordTaken, Wrote, Full, Setting, BufferSpells}
+use Rattle.std.specs.Option.{ok_or}
+use Rattle.values.specs.declared.Stop.TheVariants.{NegativeLength}
+use Rattle.effects.specs.Leaving.{memory_of, Asks, StoreStays, Taking, RecordTaken, Wrote, Full, Setting, BufferSpells}
 
--- whether a number is negative, as the code tests the one that it has for it
-pub negative_as : {z : Int} {n : ℤ} {b t : Bool} → GivesInt z n → b ≡ is_negative z.value → b ≡ t → is_negative n ≡ t
-negative_as g tests e = sym (ap is_negative g.value) ∙ sym tests ∙ e
+-- how many bytes are asked for by the number that the code has for a length
+pub asks-natural : (r : Option ℕ) {z : Int} {n : ℤ} → GivesInt z n → GivesNatural r z.value → Asks (ok_or r NegativeLength) n
+asks-natural None g e = (ap is_negative (sym g.value) ∙ e, refl)
+asks-natural (Some k) g e = (ap is_negative (sym g.value) ∙ e.0, e.1 ∙ ap nat_abs g.value)
 
 -- a store that nothing is written to
 pub stays_same : (store : List ℕ) → StoreGood store → StoreStays store store
@@ -102,30 +105,29 @@ is_nil_lem l h = nil_length l ∙ eq-eqb (length l) 0 h
 
 -- no record is read
 took_none : (store input : List ℕ) (place most from : ℕ) → Taking store place input from
-    → (eqb most 0 || is_nil (drop from input)) ≡ true → RecordTaken store store input place most from from
+    → (eqb most 0 || is_nil (drop from input)) ≡ true → RecordTaken store store input place most from None
 unfolding take_record going_to with_input chosen
-took_none store input place most from t none =
-    record {
-      stays = stays_same store t.good;
-      order = omega arith;
-      inside = t.inside;
-      work =
-          λ b c p q.
-          let test : (eqb most 0 || is_nil c.input) ≡ true = ap (λ (l : List ℕ). eqb most 0 || is_nil l) q ∙ none in
-          let one : take_record place most b c ≡ moved c b.failure c.memory.strings c.input = rw test in
-          one
-          ∙ ap₂ (λ (s : List (List ℕ)) (l : List ℕ). moved c b.failure s l) p q
-          ∙ ap (λ x. moved c (chosen x b) (strings_in store) (drop from input)) (sym (le-ltb from from (omega arith)));
-    }
+took_none store input place most from t none = (
+  refl,
+  record {
+    stays = stays_same store t.good;
+    inside = t.inside;
+    work =
+        λ b c p q.
+        let test : (eqb most 0 || is_nil c.input) ≡ true = ap (λ (l : List ℕ). eqb most 0 || is_nil l) q ∙ none in
+        let one : take_record place most b c ≡ moved c b.failure c.memory.strings c.input = rw test in
+        one ∙ ap₂ (λ (s : List (List ℕ)) (l : List ℕ). moved c b.failure s l) p q;
+  },
+)
 
 -- none is asked for, or none is left
 pub none_asked : (store input : List ℕ) (place most from : ℕ) → Taking store place input from → most ≡ 0
-    → RecordTaken store store input place most from from
+    → RecordTaken store store input place most from None
 none_asked store input place most from t e =
     took_none store input place most from t (ap (λ x. x || is_nil (drop from input)) (eq-eqb most 0 e))
 
 pub none_left : (store input : List ℕ) (place most from : ℕ) → Taking store place input from → length input - from ≡ 0
-    → RecordTaken store store input place most from from
+    → RecordTaken store store input place most from None
 none_left store input place most from t e =
     took_none store input place most from t
     (true_behind (eqb most 0) (is_nil (drop from input)) (is_nil_lem (drop from input) (length-drop from input ∙ e)))
@@ -134,7 +136,7 @@ module _ (store input : List ℕ) (place most from : ℕ) (t : Taking store plac
   -- a record is read
   pub took_some : (n : ℕ) → n ≡ record_length (drop from input) → (left : List ℕ)
       → left ≡ store_with store place (take (min n (min most 1024)) (drop from input))
-      → RecordTaken store left input place most from (from + min (n + 1) (length input - from))
+      → RecordTaken store left input place most from (Some (from + min (n + 1) (length input - from)))
   unfolding take_record going_to with_input with_string chosen longest_string
   took_some n e left is =
       let r = drop from input in
@@ -155,25 +157,26 @@ module _ (store input : List ℕ) (place most from : ℕ) (t : Taking store plac
       ∙ ap (λ (j : ℕ). drop (min (n + 1) j) r) size
       ∙ drop-drop (min (n + 1) (length input - from)) from input in
       let some : (eqb most 0 || is_nil r) ≡ false =
-      ap₂ ◌||◌ (ne_eqb most 0 (λ z. omega arith)) (not_nil r (omega arith)) in
-      record {
-        stays = subst (StoreStays store) (sym is) (stays_with store t.good place t.known v short);
-        order = omega arith;
-        inside = omega (arith, min-le_right (n + 1) (length input - from));
-        work =
-            λ b c p q.
-            let read : (ss : List (List ℕ)) (l : List ℕ) → State =
-            λ ss l.
-            moved c b.success (set ss place (take (min most 1024) (take (record_length l) l))) (drop (record_length l + 1) l) in
-            let test : (eqb most 0 || is_nil c.input) ≡ false = ap (λ (l : List ℕ). eqb most 0 || is_nil l) q ∙ some in
-            let one : take_record place most b c ≡ read c.memory.strings c.input = rw test in
-            let first : take (min most 1024) (take n r) ≡ v = take-least r (min most 1024) n in
-            one
-            ∙ ap₂ read p q
-            ∙ ap (λ (j : ℕ). moved c b.success (set (strings_in store) place (take (min most 1024) (take j r))) (drop (j + 1) r)) (sym e)
-            ∙ ap₂ (λ (w l : List ℕ). moved c b.success (set (strings_in store) place w) l) first rest
-            ∙ ap₂ (λ (x : Bool) (ss : List (List ℕ)). moved c (chosen x b) ss (drop to input)) (sym (lt-ltb from to far)) strings;
-      }
+      ap₂ ◌||◌ (ne_eqb most 0 (λ z. omega arith)) (not_nil r (omega arith)) in (
+        far,
+        record {
+          stays = subst (StoreStays store) (sym is) (stays_with store t.good place t.known v short);
+          inside = omega (arith, min-le_right (n + 1) (length input - from));
+          work =
+              λ b c p q.
+              let read : (ss : List (List ℕ)) (l : List ℕ) → State =
+              λ ss l.
+              moved c b.success (set ss place (take (min most 1024) (take (record_length l) l))) (drop (record_length l + 1) l) in
+              let test : (eqb most 0 || is_nil c.input) ≡ false = ap (λ (l : List ℕ). eqb most 0 || is_nil l) q ∙ some in
+              let one : take_record place most b c ≡ read c.memory.strings c.input = rw test in
+              let first : take (min most 1024) (take n r) ≡ v = take-least r (min most 1024) n in
+              one
+              ∙ ap₂ read p q
+              ∙ ap (λ (j : ℕ). moved c b.success (set (strings_in store) place (take (min most 1024) (take j r))) (drop (j + 1) r)) (sym e)
+              ∙ ap₂ (λ (w l : List ℕ). moved c b.success (set (strings_in store) place w) l) first rest
+              ∙ ap (λ (ss : List (List ℕ)). moved c b.success ss (drop to input)) strings;
+        },
+      )
 
 -- a null record
 pub wrote_none : (bytes : List ℕ) (at : ℕ) (v : List ℕ) → at ≤ length bytes → length v ≡ 0 → Wrote bytes bytes at at v
@@ -205,17 +208,13 @@ module _ (bytes : List ℕ) (at : ℕ) (v : List ℕ) (h : at ≤ length bytes) 
       }
 
   -- a record put
-  pub wrote_some : length v < length bytes - at → (left : List ℕ) → left ≡ splice bytes at v
-      → Wrote bytes (set left (at + length v) 10) at (at + length v + 1) v
+  pub wrote_some : length v < length bytes - at → (left : List ℕ) → left ≡ splice bytes at (v ++ (10 ∷ []))
+      → Wrote bytes left at (at + length v + 1) v
   unfolding put_record with_output pure newline
-  wrote_some k left e =
+  wrote_some k left whole =
       let x = v ++ (10 ∷ []) in
       let size : length x ≡ length v + 1 = length-append v (10 ∷ []) in
       let to : at + length x ≡ at + length v + 1 = omega arith in
-      let whole : set left (at + length v) 10 ≡ splice bytes at x =
-      ap (λ (l : List ℕ). set l (at + length v) 10) e
-      ∙ set-splice (splice bytes at v) (at + length v) 10 (omega (arith, length-splice bytes at v (omega arith)))
-      ∙ splice-behind bytes at v (10 ∷ []) h in
       record {
         size = ap length whole ∙ length-splice bytes at x (omega arith);
         order = omega arith;
@@ -228,7 +227,7 @@ module _ (bytes : List ℕ) (at : ℕ) (v : List ℕ) (h : at ≤ length bytes) 
         work =
             λ c q.
             let room : length c.output + (length v + 1) ≤ length bytes = omega (arith, ap length q, length-take-le at bytes h) in
-            let written : take at bytes ++ x ≡ take (at + length v + 1) (set left (at + length v) 10) =
+            let written : take at bytes ++ x ≡ take (at + length v + 1) left =
             sym (take-written bytes at x h) ∙ ap (λ (n : ℕ). take n (splice bytes at x)) to ∙ ap (take (at + length v + 1)) (sym whole) in
             let one : put_record (length bytes) v c ≡ done (with_output (c.output ++ x) c) 0 = rw (not_nil v some, le-leb _ _ room) in
             one

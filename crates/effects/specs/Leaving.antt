@@ -1,6 +1,6 @@
 -- What statements ask for and leave in the buffers, as the machine's definitions have it. Assumes nothing.
 use Rattle.std.specs.Prelude as std
-use Rattle.std.specs.Prelude.{true, false, nat_abs, List, ◌≡◌, ℕ, ◌≤◌, ◌<◌, ltb, ℤ, length, take, drop, Ok, Err}
+use Rattle.std.specs.Prelude.{Bool, true, false, Option, Some, None, nat_abs, List, ◌≡◌, ℕ, ◌≤◌, ◌<◌, ltb, ℤ, length, take, drop, Ok, Err}
 use Rattle.encoding.specs.BufferLaws.{StoreGood}
 use Rattle.encoding.specs.Buffers.{strings_in, store_size}
 use Rattle.store.specs.Clauses.{string_of, string_replaced}
@@ -44,14 +44,18 @@ pub record Taking (store : List ℕ) (place : ℕ) (input : List ℕ) (from : �
   pub known : place < 32
   pub inside : from ≤ length input
 
--- a record read: the machine goes on at the place behind it
-pub record RecordTaken (store left input : List ℕ) (place most from to : ℕ) : Type 0 where
+-- the machine goes on by one of its branches, and reads on at a place of the input
+pub record ReadsOn (takes : Bool) (store left input : List ℕ) (place most from to : ℕ) : Type 0 where
   pub stays : StoreStays store left
-  pub order : from ≤ to
   pub inside : to ≤ length input
   pub work : (b : Branch) (c : State) → c.memory.strings ≡ strings_in store → c.input ≡ drop from input
       → take_record place most b c
-      ≡ with_input (drop to input) (going_to (chosen (ltb from to) b) (memory_of left c.memory.numbers) c)
+      ≡ with_input (drop to input) (going_to (chosen takes b) (memory_of left c.memory.numbers) c)
+
+-- a record read, with the place behind it; or none, and then nothing changes
+abbrev pub RecordTaken : (store left input : List ℕ) → (place most from : ℕ) → Option ℕ → Type 0
+RecordTaken store left input place most from None = (left ≡ store) × ReadsOn false store left input place most from from
+RecordTaken store left input place most from (Some to) = (from < to) × ReadsOn true store left input place most from to
 
 -- a record put: the machine's output is what stands before the place behind it
 pub record Wrote (bytes left : List ℕ) (at to : ℕ) (v : List ℕ) : Type 0 where

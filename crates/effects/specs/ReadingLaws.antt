@@ -1,7 +1,7 @@
 -- Laws of READ. Assumes nothing.
-use Rattle.std.specs.Prelude.{Bool, true, List, ◌≡◌, refl, ℕ, ltb, ℤ, nat_abs, drop, get_or, set}
+use Rattle.std.specs.Prelude.{Bool, true, List, ◌≡◌, refl, ℕ, ℤ, nat_abs, drop, get_or, set}
 use Rattle.std.proofs.Math.Bool.{false}
-use Rattle.std.proofs.Common.{sym, ap₂, ◌∙◌, arith, get_or-set_same}
+use Rattle.std.proofs.Common.{sym, ◌∙◌, arith, get_or-set_same}
 use Rattle.std.proofs.Math.Path.{ap}
 use Rattle.encoding.specs.Buffers.{numbers_in}
 use Rattle.evaluator.specs.Memory.{memory_in}
@@ -12,15 +12,14 @@ use Rattle.machine.specs.Step.{chosen, moving, reading, take_record}
 use Rattle.state.specs.Laws.{numbers_stay}
 use Rattle.values.specs.Conversion.{longest_string}
 use Rattle.values.specs.Numbers.{is_negative}
-use Rattle.effects.specs.Leaving.{memory_of, RecordTaken}
+use Rattle.effects.specs.Leaving.{memory_of, ReadsOn}
 use Rattle.effects.specs.Reading.{Goes, Halts, Moves, Reading}
 
--- a record taken
+-- a record taken, or none
 pub goes_on : (store left state input : List ℕ) (place most to : ℕ) (takes : Bool) → Reading store state input place
-    → RecordTaken store left input place most (get_or state 3 0) to → ltb (get_or state 3 0) to ≡ takes
+    → ReadsOn takes store left input place most (get_or state 3 0) to
     → Goes takes store left state (set state 3 to) input (take_record place most)
-goes_on store left state input place most to takes r t e =
-    let from = get_or state 3 0 in
+goes_on store left state input place most to takes r t =
     let here : get_or (set state 3 to) 3 0 ≡ to = get_or-set_same state 3 to 0 (omega (arith, r.size)) in
     record {
       stays = t.stays;
@@ -32,7 +31,7 @@ goes_on store left state input place most to takes r t e =
           let numbers : c.memory.numbers ≡ numbers_in (set state 3 to) =
           ap (λ m. m.numbers) h.memory ∙ sym (numbers_stay state 3 to (omega arith)) in
           t.work b c (ap (λ m. m.strings) h.memory) h.input_left
-          ∙ ap₂ (λ (x : Bool) (zs : List ℤ). with_input (drop to input) (going_to (chosen x b) (memory_of left zs) c)) e numbers
+          ∙ ap (λ (zs : List ℤ). with_input (drop to input) (going_to (chosen takes b) (memory_of left zs) c)) numbers
           ∙ ap (λ (j : ℕ). with_input (drop j input) (going_to (chosen takes b) (memory_in left (set state 3 to)) c)) (sym here);
     }
 

@@ -1,14 +1,12 @@
 -- Laws of what a scan searches. Assumes nothing.
 use Rattle.std.specs.Prelude.{Ok, true, false, List, [], ◌≡◌, leb, nat_abs, take, drop}
-use Rattle.std.proofs.Common.{sym, ap, ap₂, ◌∙◌, arith, length-drop, take_all, take-take, leb-false, leb-true}
+use Rattle.std.proofs.Common.{sym, ap, ap₂, ◌∙◌, arith, length-drop, take_all, leb-false, leb-true}
 use Rattle.std.proofs.Math.Path.{subst}
-use Prim.Native.Nat.{ℕ, ◌+◌, ◌*◌, ◌-◌, ◌≤◌, ◌<◌, min}
+use Prim.Native.Nat.{ℕ, ◌-◌, ◌≤◌, ◌<◌, min}
 use Rattle.std.proofs.Math.Nat.{min_comm, min-eq_left, min-eq_right, min-le_right}
 use Rattle.std.proofs.Math.ListN.{length}
 use Rattle.std.proofs.Math.Seq.{drop-length, take-length}
 use Rattle.base.specs.Choice.{test_cases}
-use Rattle.encoding.specs.BufferLaws.{StoreGood}
-use Rattle.store.specs.CellLaws.{part_of}
 use Rattle.store.specs.Clauses.{string_of}
 use Rattle.evaluator.specs.Memory.{memory_in}
 use Rattle.syntax.specs.Program as Program
@@ -21,8 +19,7 @@ use Rattle.decoder.specs.declared.Part.{Part}
 use Rattle.values.specs.Numbers.{is_negative}
 use Rattle.values.specs.Result.{done, stop, pure}
 use Rattle.effects.specs.Laws.{drop-least, take-least}
-use Rattle.effects.specs.References.{Refers, reference_of, restricted_by}
-use Rattle.effects.specs.Valued.{Between}
+use Rattle.effects.specs.References.{Refers, restricted_by}
 
 take-least-all : (l : List ℕ) (n : ℕ) → take (min n (length l)) l ≡ take n l
 take-least-all l n =
@@ -61,17 +58,6 @@ found-restricted backward store place n p h e =
           ∙ ap₂ (λ (r b : List ℕ). done (record { place = place; before = take (length v - most) v; reference = r; behind = b }) 0) all
           (sym (drop-length v));
     }
-
--- the reference's bytes, where they lie in the store
-pub reference_bytes : (store : List ℕ) (place from to : ℕ) → StoreGood store → Between store place from to
-    → (start : ℕ) → start ≡ 1026 * place + 2
-    → take (start + to - (start + from)) (drop (start + from) store) ≡ reference_of store place from to
-reference_bytes store place from to g b start e =
-    let n = length (string_of store place) in
-    let cut : start + to - (start + from) ≡ to - from = omega arith in
-    ap₂ (λ (i j : ℕ). take i (drop (j + from) store)) cut e
-    ∙ sym (take-take (to - from) (n - from) (drop (1026 * place + 2 + from) store) (omega (arith, b.order, b.within)))
-    ∙ ap (take (to - from)) (sym (part_of store g place b.known from (omega (arith, b.order, b.within))))
 
 -- a statement's reference: the whole string, or its first or last n bytes
 module _ (d : Direction) (store state : List ℕ) (place : ℕ) (p : Part) (h : place < 32) (e : place ≡ searched_place p) where

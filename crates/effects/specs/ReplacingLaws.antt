@@ -1,14 +1,12 @@
 -- Laws of a scan's replacement: it is a stretch of the string searched that is set, in either direction. Assumes nothing.
 use Rattle.std.specs.Prelude.{List, ◌++◌, reverse, ◌≡◌, ℕ, ◌+◌, ◌-◌, ◌≤◌, ◌<◌, ℤ, length, take, drop}
-use Rattle.std.proofs.Common.{append_assoc, sym, ap, ap₂, ◌∙◌, arith, length-append, length-drop, length-take, take-append-drop, drop_at, take_all, take_at}
+use Rattle.std.proofs.Common.{append_assoc, sym, ap, ap₂, ◌∙◌, arith, length-append, length-drop, take-append-drop, drop_at, take_all, take_at}
 use Rattle.std.proofs.lemmas.List.{reverse-append, reverse-reverse, length-reverse, drop-append-le, take-append-le}
 use Rattle.std.proofs.Math.Option.{some}
-use Rattle.std.proofs.Math.Nat.{min-le_left}
 use Rattle.std.proofs.Math.Seq.{drop-append-add, take-append-add}
 use Rattle.std.proofs.lemmas.Bool.{lt-leb}
 use Rattle.base.specs.Edition.{Edition}
 use Rattle.base.specs.Lists.{total}
-use Rattle.encoding.specs.Splices.{splice, length-splice, take-front}
 use Rattle.store.specs.Clauses.{string_of, string_replaced}
 use Rattle.evaluator.specs.Values as Values
 use Rattle.syntax.specs.Program as Program
@@ -95,30 +93,20 @@ unfolding replacing
 replacing-found e d x s xs m h i =
     string_in e m xs >>= λ v. storing x.place (replaced_found d x.before x.reference x.behind v s h i) m
 
--- a buffer that has the value turned round spells it
-pub turned_spelt : (spare : List ℕ) {after out : List ℕ} {n notes : ℕ} {w : Result (List ℕ)} (s : Values.ValueSpells n notes out w) → n ≤ 1024
-    → after ≡ splice spare 0 (reverse (take n out)) → BufferSpells after n (turned backward s.value)
+-- a buffer whose first bytes, the value, were turned round spells it turned
+pub turned_spelt : {after out : List ℕ} {n notes : ℕ} {w : Result (List ℕ)} (s : Values.ValueSpells n notes out w) → n ≤ 1024
+    → after ≡ reverse (take n out) ++ drop n out → BufferSpells after n (turned backward s.value)
 unfolding turned
-turned_spelt spare {out = out} {n} s h e =
+turned_spelt {out = out} {n} s h e =
     let all : take n out ≡ s.value = ap (λ (j : ℕ). take j out) s.size ∙ s.kept ∙ take_all 1024 s.value (omega (arith, s.size)) in
     let size : length (reverse s.value) ≡ n = length-reverse s.value ∙ sym s.size in
     record {
       size = size;
       bytes =
-          ap (take n) (e ∙ ap (λ (l : List ℕ). splice spare 0 (reverse l)) all)
-          ∙ ap (λ (j : ℕ). take j (splice spare 0 (reverse s.value))) (sym size)
-          ∙ take-front spare (reverse s.value)
+          ap (take n) (e ∙ ap (λ (l : List ℕ). reverse l ++ drop n out) all)
+          ∙ take_at (reverse s.value) (drop n out) n size
           ∙ sym (take_all 1024 (reverse s.value) (omega (arith, size)));
     }
-
--- and is as long as before
-pub turned_room : (out spare after : List ℕ) (n : ℕ) → n ≤ 1024 → length spare ≡ 1024 → after ≡ splice spare 0 (reverse (take n out))
-    → length after ≡ 1024
-turned_room out spare after n h room e =
-    let v = reverse (take n out) in
-    let few : length v ≤ 1024 =
-    omega (arith, length-reverse (take n out), length-take n out, min-le_left n (length out)) in
-    ap length e ∙ length-splice spare 0 v (omega arith) ∙ room
 
 -- a value too long to be stored
 pub turned_long : (store : List ℕ) (place from to : ℕ) (zs : List ℤ) {out : List ℕ} {n notes : ℕ} {w : Result (List ℕ)}

@@ -1,5 +1,5 @@
 -- Laws of statements that value an expression and keep it. Assumes nothing.
-use Rattle.std.specs.Prelude.{true, false, ◌≡◌, ℕ, ◌+◌, ◌≤◌, ◌<◌, min, leb, ℤ, length, take, get_or, set}
+use Rattle.std.specs.Prelude.{cond, ◌≡◌, ℕ, ◌+◌, ◌≤◌, ◌<◌, min, leb, ℤ, length, take, get_or, set}
 use mathlib.Core.List.{List, ◌++◌, append-nil}
 use Rattle.std.proofs.Math.Path.{refl, sym, ap}
 use Rattle.std.proofs.Common.{subst, ◌∙◌, add-zero, arith, take_all, le-leb, le-ltb, leb-false, leb-true, lt-ltb}
@@ -11,22 +11,20 @@ use Rattle.std.proofs.lemmas.Bool.{lt-leb}
 use Rattle.base.specs.Choice.{test_cases}
 use Rattle.base.specs.Current.{current}
 use Rattle.store.specs.Clauses.{string_of, string_replaced}
-use Rattle.evaluator.specs.Memory.{memory_in}
 use Rattle.evaluator.specs.Notes.{few_done, few_elements_spelt}
 use Rattle.evaluator.specs.Values as Values
 use Rattle.syntax.specs.Program as Program
 use Rattle.machine.specs.Expressions.{length_in, string_in}
-use Rattle.machine.specs.Scanning.{storing}
+use Rattle.machine.specs.Scanning.{Searched, restricted, searched_in, storing}
 use Rattle.machine.specs.State.{Memory, string_at, with_output}
 use Rattle.machine.specs.Step.{put_record, set_string_in, shortened}
 use Rattle.decoder.specs.Meaning.{elements_meaning}
 use Rattle.decoder.specs.declared.Stretch.{Stretch}
 use Rattle.values.specs.Conversion.{longest_string}
 use Rattle.values.specs.Numbers.{is_negative}
-use Rattle.values.specs.Result.{Result, done, with_notes, ◌>>=◌}
-use Rattle.effects.specs.Laws.{drop-least}
+use Rattle.values.specs.Result.{Result, done, stop, pure, with_notes, ◌>>=◌}
 use Rattle.effects.specs.Leaving.{Completion, memory_of, LeavesStore, Sets, BufferSpells, Wrote, Full}
-use Rattle.effects.specs.Valued.{RecordPut, Unput, RecordPutBy, ValueRecorded, ValueStored, stored_between, tail_notes}
+use Rattle.effects.specs.Valued.{RecordPut, Unput, RecordPutBy, ValueRecorded, ValueStored, tail_notes}
 
 -- a buffer that spells the value of an expression spells it here
 pub spelt : {n notes : ℕ} {out : List ℕ} {w : Result (List ℕ)} (s : Values.ValueSpells n notes out w) → BufferSpells out n s.value
@@ -42,37 +40,25 @@ kept_leaves f r store left place from to after zs s p h =
     subst (λ x. LeavesStore r store left zs (x >>= λ v. storing place (string_replaced (string_of store place) from to (f v)) (memory_of store zs)))
     (sym s.work) (h (f s.value) zs p)
 
-module _ (table store state : List ℕ) (place : ℕ) (s : Stretch) where
-  -- a whole string replaced
-  pub whole-between : set_string_in current (memory_in store state) (Program.whole place) (elements_meaning table s)
-      ≡ stored_between table store state place 0 (length (string_of store place)) s
-  unfolding set_string_in
-  whole-between =
-      let old = string_of store place in
-      let same : (v : List ℕ) → v ≡ string_replaced old 0 (length old) v =
+-- a string replacement sets what a scan of its part would search, or makes a note of a negative length
+module _ (m : Memory) (xs : List Program.Element) where
+  abbrev pub set_where : Result Searched → Result Memory
+  set_where (done x n) = string_in current m xs >>= λ v. storing x.place (x.before ++ (v ++ x.behind)) m
+  set_where (stop k) = done m 1
+
+  pub set-searched : (p : Program.Part) → set_string_in current m p xs ≡ set_where (searched_in m Program.forward p)
+  unfolding set_string_in searched_in restricted pure
+  set-searched (Program.whole s) =
+      let old = string_at m s in
+      let same : (v : List ℕ) → v ≡ v ++ drop (length old) old =
       λ v. sym (ap (λ (l : List ℕ). v ++ l) (drop-length old) ∙ append-nil v) in
       λ i.
-      string_in current (memory_in store state) (elements_meaning table s) >>= λ v. storing place (same v i) (memory_in store state)
-
-  -- its first bytes replaced
-  pub first-between : (n : Program.Length) → is_negative (length_in (memory_in store state) n) ≡ false
-      → set_string_in current (memory_in store state) (Program.first place n) (elements_meaning table s)
-      ≡ stored_between table store state place 0 (min (nat_abs (length_in (memory_in store state) n)) (length (string_of store place))) s
-  unfolding set_string_in string_at
-  first-between n e =
-      let old = string_of store place in
-      let asked = nat_abs (length_in (memory_in store state) n) in
-      let same : (v : List ℕ) → v ++ drop asked old ≡ string_replaced old 0 (min asked (length old)) v =
-      λ v. ap (λ (l : List ℕ). v ++ l) (sym (drop-least old asked)) in
-      rw e refl
-      ∙ λ i.
-      string_in current (memory_in store state) (elements_meaning table s) >>= λ v. storing place (same v i) (memory_in store state)
-
-  -- a negative length
-  pub first_none : (n : Program.Length) → is_negative (length_in (memory_in store state) n) ≡ true
-      → set_string_in current (memory_in store state) (Program.first place n) (elements_meaning table s) ≡ done (memory_in store state) 1
-  unfolding set_string_in
-  first_none n e = rw e
+      string_in current m xs >>= λ v. storing s (same v i) m
+  set-searched (Program.first s n) =
+      let z = length_in m n in
+      test_cases
+      (λ x. cond x (done m 1) (string_in current m xs >>= λ v. storing s (v ++ drop (nat_abs z) (string_at m s)) m)
+      ≡ set_where (cond x (stop 17) (pure (restricted Program.forward s (nat_abs z) (string_at m s))))) (is_negative z) (λ _. refl) (λ _. refl)
 
 -- a record of the bytes that a buffer spells
 shortened_as : (v : List ℕ) (n : ℕ) (value : List ℕ) → length v ≡ 1024 → BufferSpells v n value

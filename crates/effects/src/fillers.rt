@@ -8,10 +8,11 @@ ghost use Rattle.effects.specs.Fillers.{filler_of, renamed, Patterned, Nulled, N
 
 use base::STRINGS;
 use decoder::{PatternElement, Stretch};
-use scanning::{LENGTHS_AT, START_AT};
+use scanning::{ANSWER_SIZE, LENGTHS_AT, START_AT};
 
 // the place of a filler, or one behind those of all strings
-// kept: 32 for none, in a scan's bytes of names too: the one test of set_named says both that a place is named and that a store has it
+// kept: 32 for none, in a scan's bytes of names too: the one test of set_named and copy_named says both that a place is named and that a store
+// has it. Beside an Option the test would stay: the element of any table is taken, and to ask for a place below 32 asks more of callers
 fn filler_of(x: PatternElement) -> usize
     ensures { (t : List ℕ) → result ≡ filler_of (pattern_meaning t x) }
 {
@@ -47,29 +48,33 @@ pub fn null_fillers(table: &[u8], store: &mut [u8], pattern: Stretch)
 }
 
 // Names the pieces of a split, left to right: names has the place that each is to name, or none; the answer has the split.
-// kept: by the piece's index, names, answer and count side by side: neither a row nor an answer of the scan call (C interface) has the others
-pub fn name_fillers(store: &mut [u8], reference: &[u8], names: &[u8], answer: &[u32], count: usize)
+// kept: the count of the pieces stands beside both: names and the answer are as long for every pattern
+pub fn name_fillers(
+    store: &mut [u8],
+    reference: &[u8],
+    names: &[u8],
+    answer: &[u32; ANSWER_SIZE],
+    count: usize,
+)
     requires { Nameable store.old reference.now names.now answer.now count }
     ensures { PiecesNamed store.old store.new reference.now names.now answer.now count }
 {
     let mut at = answer[START_AT] as usize;
-    for i in 0..count {
-        let to = at + answer[LENGTHS_AT + i] as usize;
-        set_named(store, names[i] as usize, &reference[at..to]);
+    for (name, n) in names[..count].iter().zip(&answer[LENGTHS_AT..]) {
+        let to = at + *n as usize;
+        set_named(store, *name as usize, &reference[at..to]);
         at = to;
     }
 }
 
 // Copies the string of this place, if it is one, to another store.
-#[tactic(auto, using(encoding::specs::BufferLaws::good_short, encoding::specs::BufferLaws::string_part, base::specs::ListLaws::stretch_cut), unfolding(crate::specs::Fillers::renamed))]
+#[tactic(auto, unfolding(crate::specs::Fillers::renamed))]
 fn copy_named(from: &[u8], to: &mut [u8], place: usize)
     requires { StoreGood from.now × StoreGood to.old }
     ensures { to.new ≡ renamed to.old place (string_of from.now place) }
 {
     if place < STRINGS {
-        let start = store::string_start(place);
-        let end = start + store::string_length(from, place);
-        store::put(to, place, &from[start..end]);
+        store::put(to, place, store::string(from, place));
     }
 }
 

@@ -1,6 +1,7 @@
 // What statements leave in the buffers once their values are known: a record read or written, a stretch of a string set.
 // Each contract is an equation with the definitions of the crate machine. What stops a statement is found before anything is written.
-// kept: table, store and state come apart, as valued.rt says; out is a slice of 1,024 bytes, as crate evaluator says
+// kept: store and state come apart, as valued.rt says, and the table, C's bytes read by place, stands beside both; where out keeps a value it is a
+// slice of 1,024 bytes, as crate evaluator says
 #![tactic(auto)]
 
 pub mod fillers;
@@ -36,28 +37,29 @@ fn asked(state: &[u64; STATE_SIZE], n: Length) -> Result<usize, Stop>
     requires length_holds { LengthHolds n }
     ensures { (store : List ℕ) → Asks result (length_in (memory_in store state.now) (length_meaning n)) }
 {
-    let z = evaluator::length_value(state, n);
-    if numbers::is_negative(z) {
-        Err(Stop::NegativeLength)
-    } else {
-        Ok(numbers::size(z) as usize)
-    }
+    numbers::natural(evaluator::length_value(state, n)).ok_or(Stop::NegativeLength)
 }
 
 // Takes the record at a place of the input into a string, its first 1,024 bytes or fewer if so few are asked for. Gives the place
-// behind it, or the same place if there is no record or none is asked for: then nothing changes.
-pub fn take_record(store: &mut [u8], place: usize, input: &[u8], from: usize, most: usize) -> usize
+// behind it, or None if there is no record or none is asked for: then nothing changes.
+pub fn take_record(
+    store: &mut [u8],
+    place: usize,
+    input: &[u8],
+    from: usize,
+    most: usize,
+) -> Option<usize>
     requires { Taking store.old place input.now from }
     ensures { RecordTaken store.old store.new input.now place most from result }
 {
     let left = input.len() - from;
     if most == 0 || left == 0 {
-        return from;
+        return None;
     }
     let n = store::spans::next_record(input, from);
     let to = from + n.min(most.min(LONGEST));
     store::put(store, place, &input[from..to]);
-    from + (n + 1).min(left)
+    Some(from + (n + 1).min(left))
 }
 
 // Puts a record and byte 10 behind the bytes of the output, and gives its new length; a null record puts nothing.
@@ -72,12 +74,11 @@ pub fn put_record(output: &mut [u8], at: usize, v: &[u8]) -> Result<usize, Stop>
     if output.len() - at <= n {
         return Err(Stop::OutputFull);
     }
-    store::spans::write(output, at, v);
-    output[at + n] = b'\n';
-    Ok(at + n + 1)
+    Ok(store::spans::put_line(output, at, v))
 }
 
 // A value takes the place of the bytes of a span, with the notes that came with it. It has so many bytes; v has the first 1,024 of them.
+// kept: v and length side by side, here and in valued: a value may be longer than its buffer; the step then stops, or cuts it
 pub fn set_between(store: &mut [u8], at: Span, v: &[u8], length: Noted<usize>) -> Result<u32, Stop>
     requires { Setting store.old at.place at.from at.to v.now }
     ensures { Sets result store.old store.new at.place at.from at.to v.now length.value length.notes }

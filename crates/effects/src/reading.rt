@@ -13,7 +13,6 @@ use encoding::{READ_AT, STATE_SIZE};
 use values::Stop;
 
 // takes the next record of the input that the state knows of, if there is one
-#[tactic(auto, using(crate::specs::ReadingLaws::goes_on))]
 fn read_next(
     store: &mut [u8],
     state: &mut [u64; STATE_SIZE],
@@ -24,10 +23,11 @@ fn read_next(
     requires { Reading store.old state.old input.now place }
     ensures { NextRecord result store.old store.new state.old state.new input.now place most }
 {
-    let from = state[READ_AT] as usize;
-    let to = take_record(store, place, input, from, most);
+    let Some(to) = take_record(store, place, input, state[READ_AT] as usize, most) else {
+        return false;
+    };
     state[READ_AT] = to as u64;
-    from < to
+    true
 }
 
 // READ: whether there was a record

@@ -3,16 +3,18 @@
 ghost use Rattle.std.specs.Prelude.{◌≡◌, ◌≤◌};
 ghost use Rattle.encoding.specs.BufferLaws.{StoreGood};
 ghost use Rattle.encoding.specs.Splices.{splice};
-ghost use Rattle.evaluator.specs.Memory.{memory_in};
+ghost use Rattle.evaluator.specs.Meaning.{memory_meaning};
 ghost use Rattle.machine.specs.Scanning.{searched_in, turned};
 ghost use Rattle.decoder.specs.Holds.{PartHolds};
-ghost use Rattle.decoder.specs.Meaning.{direction_meaning, part_meaning};
+ghost use Rattle.decoder.specs.Meaning.{part_meaning};
+ghost use Rattle.encoding.specs.Meaning.{direction_meaning};
 ghost use Rattle.effects.specs.References.{Refers, restricted_by, reference_of};
 ghost use Rattle.effects.specs.Valued.{Between};
 
 use crate::{Span, asked};
 use base::LONGEST;
-use decoder::{Direction, Part};
+use decoder::Part;
+use encoding::cells::Direction;
 use evaluator::Memory;
 use values::Stop;
 
@@ -39,7 +41,7 @@ fn restrict(d: Direction, place: usize, n: usize, length: usize) -> Span
 pub fn reference_ends(memory: Memory, d: Direction, p: Part) -> Result<Span, Stop>
     requires { PartHolds p }
     ensures { Refers result memory.entry.store.now p
-        (searched_in (memory_in memory.entry.store.now memory.entry.state.now) (direction_meaning d) (part_meaning p)) }
+        (searched_in (memory_meaning memory.entry) (direction_meaning d) (part_meaning p)) }
 {
     match p {
         Part::Whole(place) => {
@@ -55,18 +57,16 @@ pub fn reference_ends(memory: Memory, d: Direction, p: Part) -> Result<Span, Sto
 }
 
 // copies the reference to the front of a string's buffer
-#[tactic(auto, using(encoding::specs::BufferLaws::good_short, base::specs::ListLaws::stretch_few))]
 pub fn copy_reference(store: &[u8], at: Span, d: Direction, out: &mut [u8; LONGEST])
     requires store_good { StoreGood store.now }
     requires between { Between store.now at.place at.from at.to }
     ensures { out.new
         ≡ splice out.old 0 (turned (direction_meaning d) (reference_of store.now at.place at.from at.to)) }
 {
-    let start = store::string_start(at.place);
-    let a = start + at.from;
-    let b = start + at.to;
+    let string = store::string(store, at.place);
+    let reference = &string[at.from..at.to];
     match d {
-        Direction::Forward => store::spans::write(out, 0, &store[a..b]),
-        Direction::Backward => store::spans::copy_turned(&store[a..b], out),
+        Direction::Forward => store::spans::write(out, 0, reference),
+        Direction::Backward => store::spans::copy_turned(reference, out),
     }
 }

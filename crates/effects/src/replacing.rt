@@ -1,27 +1,19 @@
 // The replacement of a scan: its value put where the pieces lay, turned round in a BACKSCAN as the reference is turned back.
 // Each contract is an equation with the definitions of the crate machine.
-ghost use Rattle.std.specs.Prelude.{reverse, ◌≡◌, ◌≤◌, length, take};
-ghost use Rattle.encoding.specs.Splices.{splice};
+ghost use Rattle.std.specs.Prelude.{reverse, ◌≡◌, length};
 ghost use Rattle.syntax.specs.Program.{backward};
-ghost use Rattle.decoder.specs.Meaning.{direction_meaning};
+ghost use Rattle.encoding.specs.Meaning.{direction_meaning};
 ghost use Rattle.effects.specs.Replacing.{stored_turned};
 ghost use Rattle.effects.specs.Valued.{Between, ValueSpellable, ValueStored};
 
 use crate::valued::set_value;
 use crate::{Span, set_between};
 use base::LONGEST;
-use decoder::{Direction, Stretch};
+use decoder::Stretch;
 use encoding::STATE_SIZE;
+use encoding::cells::Direction;
 use evaluator::Memory;
 use values::Stop;
-
-// copies the first n bytes of v, last byte first, to the front of a string's buffer
-fn turn_first(v: &[u8], n: usize, out: &mut [u8; LONGEST])
-    requires { (n ≤ 1024) × (n ≤ length v.now) }
-    ensures { out.new ≡ splice out.old 0 (reverse (take n v.now)) }
-{
-    store::spans::copy_turned(&v[..n], out);
-}
 
 // a string expression's value, turned round, takes the place of the bytes of a span
 fn set_turned(
@@ -42,9 +34,8 @@ fn set_turned(
     if LONGEST < length.value {
         return Err(Stop::TooLong);
     }
-    let mut turned = [0u8; LONGEST];
-    turn_first(out, length.value, &mut turned);
-    set_between(store, at, &turned, length)
+    out[..length.value].reverse();
+    set_between(store, at, out, length)
 }
 
 // the value of a scan's replacement takes the place of the bytes of a span

@@ -10,14 +10,18 @@ ghost use Rattle.decoder.specs.Meaning.{items_meaning, elements_meaning, part_me
 ghost use Rattle.effects.specs.Valued.{Valuable, ValueSpellable, Assigns, Between, stored_between, ValueStored, Writing, tail_notes};
 ghost use Rattle.effects.specs.Valued.{ValueRecorded, StateWritable, Writes};
 
-use crate::{Span, asked, put_record, set_between};
+use crate::reference::reference_ends;
+use crate::{Span, put_record, set_between};
 use base::LONGEST;
 use decoder::{Part, Stretch};
+use encoding::cells::Direction;
 use encoding::{STATE_SIZE, WRITTEN_AT};
 use evaluator::Memory;
 use values::{Noted, Stop};
 
 // kept: a statement writes the store or the state, so here and in execution they come apart; a Memory has them while values are found
+// kept: table and s side by side: a struct of both with what holds of s as ghost field would be made anew for each stretch of a
+// statement, and ask for the same fact there
 
 // a numeric expression's value becomes the number of this place
 pub fn assign(
@@ -71,21 +75,11 @@ pub fn set_string(
     ensures { ValueStored result store.old store.new state.now
         (set_string_in current (memory_in store.old state.now) (part_meaning p) (elements_meaning table.now s)) }
 {
-    match p {
-        Part::Whole(place) => {
-            let to = store::string_length(store, place);
-            let at = Span { place, from: 0, to };
-            set_value(table, store, state, at, s, out)
-        }
-        Part::First(place, n) => {
-            let Ok(most) = asked(state, n) else {
-                return Ok(1);
-            };
-            let to = most.min(store::string_length(store, place));
-            let at = Span { place, from: 0, to };
-            set_value(table, store, state, at, s, out)
-        }
-    }
+    // a negative length: nothing is set, and one note is made
+    let Ok(at) = reference_ends(Memory { store, state }, Direction::Forward, p) else {
+        return Ok(1);
+    };
+    set_value(table, store, state, at, s, out)
 }
 
 // a note if a record is so long that its tail is dropped

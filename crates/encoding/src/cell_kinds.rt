@@ -1,7 +1,7 @@
 // The kinds of a table's cells, as specs/Kinds has them (docs/TABLE.md lists all). Numbers leave room between classes, and each place where a
 // cell may stand takes one range of them. Where a length may be a constant or a number, the kind with BY, the next one, is that of a number.
-// kept: numbers, since a table's bytes are part of the C interface: what is read is matched once, straight to what it stands for (Item, Element,
-// CellRule and so on), and an enum between would be looked up first and then matched
+// kept: numbers: they are a table's bytes (the C interface, docs/TABLE.md), in classes that readers take by ranges; an enum of them would be made
+// from a byte and then matched again into what it stands for
 pub const NOTHING: u8 = 0;
 
 // items, from PLUS to LAST_ITEM: operators, signs of a first term, operands from CONSTANT on

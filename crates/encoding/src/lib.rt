@@ -15,7 +15,7 @@ pub const ITEMS_AT: usize = 14_400;
 
 pub const LITERALS_AT: usize = 22_592;
 
-// kept: where a table is read it is a slice, whose length the clauses ask for: C lends one that may be longer, and no step copies it
+// kept: where a table is read it is a slice: an array's type would ask for exactly so many bytes, where these functions take a longer table too
 pub const TABLE_SIZE: usize = 28_672;
 
 // the bytes of a step's row, and of a cell

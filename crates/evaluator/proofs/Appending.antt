@@ -11,7 +11,16 @@ use borrow.Author.Tests.{leb-true, leb-false}
 use Rattle.base.specs.Choice.{test_cases}
 use Rattle.encoding.specs.Splices.{splice, length-splice, take-written}
 use Rattle.evaluator.specs.Appending.{AppendedBehind, Appended}
-use Rattle.evaluator.proofs.Spanning.{take-least}
+
+-- as many bytes as asked for, or all
+pub take-least : (k : ℕ) (l : List ℕ) → take (min k (length l)) l ≡ take k l
+take-least k l =
+    test_cases (λ _. take (min k (length l)) l ≡ take k l) (leb k (length l))
+    (λ t. ap (λ (i : ℕ). take i l) (min-eq_left (leb-true k (length l) t)))
+    (λ f.
+    let short : length l ≤ k = omega (arith, leb-false k (length l) f) in
+    let all : length l ≤ length l = omega arith in
+    ap (λ (i : ℕ). take i l) (min-eq_right short) ∙ take_all (length l) l all ∙ sym (take_all k l short))
 
 module _ (out v : List ℕ) (at : ℕ) (size : length out ≡ 1024) where
   -- behind 1,024 bytes nothing is kept

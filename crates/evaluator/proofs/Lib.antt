@@ -1,8 +1,8 @@
 -- The laws that several proofs share.
 mod Appending
+mod Numbers
 mod Operands
 mod Pairing
-mod Spanning
 mod Spelling
 mod Valuing
 mod Waiting

@@ -4,7 +4,6 @@ use mathlib.Core.List.{List, ◌∷◌}
 use mathlib.Core.Path.{◌≡◌, sym, ap, ap₂, subst, ◌∙◌}
 use Prim.Native.Nat.{ℕ, ◌+◌, ◌*◌, ◌-◌, ◌≤◌, ◌<◌}
 use native.Mathlib.Omega.{arith}
-use lib.IntN.{pos}
 use lib.ListN.{replicate}
 use Rattle.base.specs.Current.{current}
 use Rattle.encoding.specs.ReadingLaws.{items_more, items_none}
@@ -19,7 +18,7 @@ use Rattle.decoder.specs.declared.Item.{Item}
 use Rattle.values.specs.Result.{done, stop}
 use Rattle.evaluator.specs.Notes.{few_done, few_item}
 use Rattle.numbers.specs.declared.Int.{Int}
-use Rattle.evaluator.specs.Waiting.{waiting_in, Waits, OnTop, FindsWaiting, waiting_after, known_worked, WaitingCounted, ItemTaken}
+use Rattle.evaluator.specs.Waiting.{blank, waiting_in, Waits, OnTop, FindsWaiting, waiting_after, known_worked, WaitingCounted, ItemTaken}
 use Rattle.evaluator.specs.declared.Stack.{Stack}
 use Rattle.std.specs.Prelude as std
 use Rattle.std.specs.Prelude.{Ok, Err}
@@ -36,7 +35,7 @@ pub record Valuing (m : Memory) (t : List ℕ) (from count : ℕ) (s : Stack) (n
       ≡ numeric_from m notes (waiting_in s) (read_items t at (from + count - at))
 
 pub valuing_begins : (m : Memory) (t : List ℕ) (from count : ℕ) → balanced 0 (read_items t from count) ≡ true
-    → Valuing m t from count (record { numbers = replicate 64 (pos 0); count = 0 }) 0 from
+    → Valuing m t from count (record { numbers = replicate 64 blank; count = 0 }) 0 from
 valuing_begins m t from count h =
     let all : from + count - from ≡ count = omega arith in
     record {

@@ -7,15 +7,13 @@ use native.Mathlib.Nat.{add-zero}
 use native.Mathlib.Numerals.{add-one}
 use native.Mathlib.Omega.{arith}
 use lib.Dec.{leb, ltb}
-use lib.IntN.{ℤ, pos, nat_abs}
+use lib.IntN.{ℤ}
 use lib.ListN.{length, set, replicate, length-set, length-replicate}
 use lib.Seq.{get_or-set_same, get_or-set_other}
-use mir.Syntax.{w64}
-use mir.Val.{of_z, to_z}
 use borrow.Author.Tests.{eqb-true, ltb-true, leb-true}
-use Rattle.base.specs.Current.{current, limit}
+use Rattle.base.specs.Current.{current}
 use Rattle.encoding.specs.Rules.{balanced, most_waiting}
-use Rattle.numbers.specs.Laws.{plain}
+use Rattle.numbers.specs.Numbers.{IntInRange}
 use Rattle.numbers.specs.declared.Int.{Int}
 use Rattle.values.specs.declared.Noted.{Noted}
 use Rattle.syntax.specs.Program as Program
@@ -26,50 +24,46 @@ use Rattle.decoder.specs.Meaning.{item_meaning}
 use Rattle.decoder.specs.declared.Item.{Item}
 use Rattle.decoder.specs.declared.Item.TheVariants as items
 use Rattle.values.specs.Result.{Result, done, stop, with_notes, pure, ◌>>=◌}
-use Rattle.evaluator.specs.Waiting.{signed_as, latest_first, waiting_in, Waits, Pushable, OnTop, FindsWaiting, waiting_after}
+use Rattle.evaluator.specs.Waiting.{blank, signed_as, latest_first, waiting_in, Waits, Pushable, OnTop, FindsWaiting, waiting_after}
 use Rattle.evaluator.specs.declared.Stack.{Stack}
 
 -- a number put behind the last one waiting
-waiting-set : (w : List ℤ) (at : ℕ) (z : ℤ) (n : ℕ) → n ≤ at → latest_first (set w at z) n ≡ latest_first w n
+waiting-set : (w : List Int) (at : ℕ) (z : Int) (n : ℕ) → n ≤ at → latest_first (set w at z) n ≡ latest_first w n
 waiting-set w at z zero h = refl
 waiting-set w at z (suc n) h =
-    ap₂ {C = List ℤ} ◌∷◌ (get_or-set_other w at n z (pos 0) (λ e. omega arith)) (waiting-set w at z n (omega arith))
+    ap₂ (λ (x : Int) (l : List ℤ). x.value ∷ l) (get_or-set_other w at n z blank (λ e. omega arith)) (waiting-set w at z n (omega arith))
 
-waiting-put : (w : List ℤ) (at : ℕ) (z : ℤ) → at < length w → latest_first (set w at z) (at + 1) ≡ z ∷ latest_first w at
+waiting-put : (w : List Int) (at : ℕ) (z : Int) → at < length w → latest_first (set w at z) (at + 1) ≡ z.value ∷ latest_first w at
 waiting-put w at z h =
     ap (latest_first (set w at z)) (add-one at)
-    ∙ ap₂ {C = List ℤ} ◌∷◌ (get_or-set_same w at z (pos 0) h) (waiting-set w at z at (omega arith))
+    ∙ ap₂ (λ (x : Int) (l : List ℤ). x.value ∷ l) (get_or-set_same w at z blank h) (waiting-set w at z at (omega arith))
 
 -- a number put on top
 module _ {s : Stack} {z : Int} (p : Pushable s z) where
   abbrev above : Stack
-  above = record { numbers = set s.numbers s.count (to_z w64 (of_z w64 z.value)); count = s.count + 1 }
-
-  same : to_z w64 (of_z w64 z.value) ≡ z.value
-  same = plain z.value (omega (arith, p.number))
+  above = record { numbers = set s.numbers s.count z; count = s.count + 1 }
 
   pub push-top : OnTop z s above
   push-top =
       record {
         count = refl;
-        numbers = rw same (waiting-put s.numbers s.count z.value (omega (arith, p.waits.size, p.room)));
+        numbers = waiting-put s.numbers s.count z (omega (arith, p.waits.size, p.room));
       }
 
   pub push-waits : Waits above
   push-waits =
-      rw same
-      (record {
-        size = length-set s.numbers s.count z.value ∙ p.waits.size;
+      record {
+        size = length-set s.numbers s.count z ∙ p.waits.size;
         most = omega (arith, p.room);
-        range = set_everywhere (λ x. nat_abs x ≤ limit) s.numbers s.count z.value (pos 0) p.number p.waits.range;
-      })
+        range = set_everywhere IntInRange s.numbers s.count z blank p.number p.waits.range;
+      }
 
-pub waits_none : Waits (record { numbers = replicate 64 (pos 0); count = 0 })
+pub waits_none : Waits (record { numbers = replicate 64 blank; count = 0 })
 waits_none =
     record {
-      size = length-replicate 64 (pos 0);
+      size = length-replicate 64 blank;
       most = omega arith;
-      range = replicate_everywhere (λ x. nat_abs x ≤ limit) 64 (pos 0) (omega arith);
+      range = replicate_everywhere IntInRange 64 blank (omega arith);
     }
 
 -- what balance tells of an item and of those behind it

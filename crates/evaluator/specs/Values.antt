@@ -1,31 +1,19 @@
 -- What the code's answers stand for. Assumes nothing.
 use Rattle.std.specs.Prelude as std
+use Rattle.std.proofs.Common.{Bor}
 use Rattle.std.specs.Prelude.{Bool, List, ◌≡◌, ℕ, ◌-◌, ◌≤◌, ℤ, length, take, drop, Ok, Err}
-use Rattle.base.specs.Current.{current, table_size}
+use Rattle.base.specs.Current.{current}
 use Rattle.numbers.specs.Text.{Text}
 use Rattle.values.specs.Conversion.{number_of, is_numeric}
 use Rattle.values.specs.Result.{Result, done, stop, pure, ◌>>=◌}
 use Rattle.values.specs.Stops.{stop_number, worked}
 use Rattle.values.specs.declared.Noted.{Noted}
 use Rattle.values.specs.declared.Stop.{Stop}
-use Rattle.evaluator.specs.declared.Ends.{Ends}
 
--- the bytes between two ends, with the notes made
-abbrev pub spanned : List ℕ → Ends → Result (List ℕ)
-spanned bytes ends = done (take (ends.to - ends.from) (drop ends.from bytes)) ends.notes
-
--- ends that lie in some bytes, not further apart than a table is long
-pub record Lies (bytes : List ℕ) (ends : Ends) : Type 0 where
-  pub order : ends.from ≤ ends.to
-  pub within : ends.to ≤ length bytes
-  pub short : ends.to - ends.from ≤ table_size
-  pub few : ends.notes ≤ 1
-
--- work gives the bytes between two ends of the store, a string or the beginning of one
-pub record Spans (store : List ℕ) (ends : Ends) (w : Result (List ℕ)) : Type 0 where
-  pub lies : Lies store ends
-  pub string : ends.to - ends.from ≤ 1024
-  pub work : w ≡ spanned store ends
+-- work gives these bytes, no more than a string has, with these notes
+pub record GivesBytes (r : Noted (Bor (List ℕ))) (w : Result (List ℕ)) : Type 0 where
+  pub work : w ≡ done r.value.now r.notes
+  pub short : length r.value.now ≤ 1024
 
 -- work that gives a string, and then NUMBER of it, or whether it is numeric
 abbrev pub then_number : Result (List ℕ) → Result ℤ

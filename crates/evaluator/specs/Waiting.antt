@@ -1,7 +1,6 @@
 -- The numbers that wait for an operator, in the first places of 64, and what an item does to them. Assumes nothing.
 use Rattle.std.specs.Prelude as std
 use Rattle.std.specs.Prelude.{Ok, Err, List, [], ◌∷◌, ◌≡◌, ℕ, zero, suc, ◌+◌, ◌-◌, ◌≤◌, ◌<◌, ℤ, pos, neg_ℤ, nat_abs, length, get_or}
-use Rattle.base.specs.Current.{limit}
 use Rattle.numbers.specs.Numbers.{IntInRange}
 use Rattle.numbers.specs.declared.Int.{Int}
 use Rattle.syntax.specs.Program as Program
@@ -13,10 +12,14 @@ use Rattle.values.specs.Stops.{stop_number}
 use Rattle.values.specs.declared.Stop.{Stop}
 use Rattle.evaluator.specs.declared.Stack.{Stack}
 
+-- a place where no number waits
+abbrev pub blank : Int
+blank = record { value = pos 0 }
+
 -- the first so many of them, the latest first
-abbrev pub latest_first : List ℤ → ℕ → List ℤ
+abbrev pub latest_first : List Int → ℕ → List ℤ
 latest_first numbers zero = []
-latest_first numbers (suc n) = get_or numbers n (pos 0) ∷ latest_first numbers n
+latest_first numbers (suc n) = (get_or numbers n blank).value ∷ latest_first numbers n
 
 -- those that wait, the latest first
 abbrev pub waiting_in : Stack → List ℤ
@@ -31,7 +34,7 @@ signed_as Program.negative z = neg_ℤ z
 pub record Waits (s : Stack) : Type 0 where
   pub size : length s.numbers ≡ 64
   pub most : s.count ≤ 64
-  pub range : (i : ℕ) → nat_abs (get_or s.numbers i (pos 0)) ≤ limit
+  pub range : (i : ℕ) → IntInRange (get_or s.numbers i blank)
 
 -- there is room for a number in range
 pub record Pushable (s : Stack) (z : Int) : Type 0 where

@@ -2,6 +2,8 @@
 // that keeps the numbers with a bias added. Each contract is an equation with the definitions of the crate machine.
 #![tactic(auto)]
 
+mod memory;
+
 ghost use Rattle.std.specs.Prelude.{List, ◌≡◌, ℕ, ◌+◌, ◌-◌, ◌<◌, ◌≤◌, length};
 ghost use Rattle.base.specs.Current.{current, table_size};
 ghost use Rattle.encoding.specs.BufferLaws.{StoreGood};
@@ -17,44 +19,49 @@ ghost use Rattle.decoder.specs.Meaning.{element_meaning, elements_meaning, if_me
 ghost use Rattle.values.specs.Conversion.{substring, text_of};
 ghost use Rattle.values.specs.Result.{done};
 ghost use Rattle.evaluator.specs.Appending.{Appended, Addable, Appends};
-ghost use Rattle.evaluator.specs.Memory.{memory_in, StateNumbered, MemoryReady};
+ghost use Rattle.evaluator.specs.Memory.{memory_in, StateNumbered};
+ghost use Rattle.evaluator.specs.Meaning.{memory_meaning};
 ghost use Rattle.evaluator.specs.Pairs.{PairAt};
-ghost use Rattle.evaluator.specs.Values.{spanned, Lies, Spans, then_number, ValueWritten, truth_worked};
+ghost use Rattle.evaluator.specs.Values.{GivesBytes, then_number, ValueWritten, truth_worked};
 ghost use Rattle.evaluator.specs.Waiting.{waiting_in, signed_as, Waits, Pushable, Poppable, OnTop, waiting_after, Takable, ItemTaken};
 
 use base::LONGEST;
 use decoder::{Element, If, Item, Length, Operand, Operator, Part, Sign, Stretch};
-use encoding::{NUMBERS_AT, STATE_SIZE, WAITING, cell_kinds};
+use encoding::{STATE_SIZE, WAITING};
+pub use memory::Memory;
 use numbers::Int;
 use values::{Noted, Stop};
 
 // kept: places and constants in range by clauses, as crate decoder says
-// kept: a string's buffer is a slice of 1,024 bytes, no array: callers lend a part of a longer one
-
-// what values are found in: the store has the strings, the state the numbers; both were checked when the call began
-// kept: the table comes beside it: parts, operands and comparisons are valued without one
-#[derive(Clone, Copy)]
-pub struct Memory<'a> {
-    pub store: &'a [u8],
-    pub state: &'a [u64; STATE_SIZE],
-    pub ghost ready: { MemoryReady store.now state.now },
-}
-
-// where bytes of the store lie, with the notes made on the way
-// kept: no Noted of a pair: from and to are told by their names at each use
-#[derive(Clone, Copy)]
-pub struct Ends {
-    pub from: usize,
-    pub to: usize,
-    pub notes: u32,
-}
+// kept: a string's buffer is a slice of 1,024 bytes: callers lend a part of values, which the scan reads as one run of bytes (C interface); such a
+// part as an array comes as an Option (first_chunk_mut), whose None each of them would have to answer
 
 // the numbers that wait for an operator, the latest last
 // kept: no ArrayVec of the kit, whose pop also tests and writes a blank: a deck of long expressions took 1.12 of the instructions, of short ones 1.03
 #[derive(Drop)]
 struct Stack {
-    numbers: [i64; WAITING],
+    numbers: [Int; WAITING],
     count: usize,
+}
+
+impl Stack {
+    // z waits
+    fn push(&mut self, z: Int)
+        requires { Pushable self.old z }
+        ensures { OnTop z self.old self.new × Waits self.new }
+    {
+        self.numbers[self.count] = z;
+        self.count += 1;
+    }
+
+    // the latest no longer waits
+    fn pop(&mut self) -> Int
+        requires { Poppable self.old }
+        ensures { OnTop result self.new self.old × Waits self.new × IntInRange result }
+    {
+        self.count -= 1;
+        self.numbers[self.count]
+    }
 }
 
 // the number of this place
@@ -64,7 +71,7 @@ pub fn number_at(state: &[u64; STATE_SIZE], place: usize) -> Int
     requires place_bound { place < 32 }
     ensures { (store : List ℕ) → GivesInt result (number_at (memory_in store state.now) place) }
 {
-    decoder::unbias(state[NUMBERS_AT + place] as usize)
+    state::number(state, place)
 }
 
 // a constant, or the number of its place
@@ -79,51 +86,29 @@ pub fn length_value(state: &[u64; STATE_SIZE], n: Length) -> Int
     }
 }
 
-// where the string of this place lies
-fn string_ends(store: &[u8], place: usize) -> Ends
-    requires store_good { StoreGood store.now }
-    requires place_bound { place < 32 }
-    ensures { Spans store.now result (done (string_of store.now place) 0) }
+// the first n bytes of the string of this place; all if it is shorter, none and a note if n is negative
+fn first_bytes<'a>(memory: Memory<'a>, place: usize, n: Int) -> Noted<&'a [u8]>
+    requires { place < 32 }
+    ensures { GivesBytes result (substring (string_of memory.entry.store.now place) n.value) }
 {
-    let from = store::string_start(place);
-    Ends {
-        from,
-        to: from + store::string_length(store, place),
-        notes: 0,
-    }
-}
-
-// where its first n bytes lie; all if it is shorter, none and a note if n is negative
-fn first_ends(store: &[u8], place: usize, n: Int) -> Ends
-    requires store_good { StoreGood store.now }
-    requires place_bound { (place < 32) × IntInRange n }
-    ensures { Spans store.now result (substring (string_of store.now place) n.value) }
-{
-    let from = store::string_start(place);
-    if numbers::is_negative(n) {
-        return Ends {
-            from,
-            to: from,
+    let string = store::string(memory.store, place);
+    match numbers::natural(n) {
+        Some(most) => Noted::plain(&string[..most.min(string.len())]),
+        None => Noted {
+            value: &[],
             notes: 1,
-        };
-    }
-    let length = store::string_length(store, place);
-    let asked = numbers::size(n) as usize;
-    Ends {
-        from,
-        to: from + asked.min(length),
-        notes: 0,
+        },
     }
 }
 
-// where a part of a string lies
-pub fn part_ends(memory: Memory, p: Part) -> Ends
+// the bytes of a part of a string
+fn part_bytes<'a>(memory: Memory<'a>, p: Part) -> Noted<&'a [u8]>
     requires { PartHolds p }
-    ensures { Spans memory.entry.store.now result (part_in (memory_in memory.entry.store.now memory.entry.state.now) (part_meaning p)) }
+    ensures { GivesBytes result (part_in (memory_meaning memory.entry) (part_meaning p)) }
 {
     match p {
-        Part::Whole(s) => string_ends(memory.store, s),
-        Part::First(s, n) => first_ends(memory.store, s, length_value(memory.state, n)),
+        Part::Whole(s) => Noted::plain(store::string(memory.store, s)),
+        Part::First(s, n) => first_bytes(memory, s, length_value(memory.state, n)),
     }
 }
 
@@ -131,18 +116,18 @@ pub fn part_ends(memory: Memory, p: Part) -> Ends
 #[inline(never)]
 fn part_number(memory: Memory, p: Part) -> Result<Noted<Int>, Stop>
     requires { PartHolds p }
-    ensures { NumberAnswers result (then_number (part_in (memory_in memory.entry.store.now memory.entry.state.now) (part_meaning p))) }
+    ensures { NumberAnswers result (then_number (part_in (memory_meaning memory.entry) (part_meaning p))) }
 {
-    let ends = part_ends(memory, p);
-    let number = numbers::number_of(&memory.store[ends.from..ends.to])?;
-    Ok(number.behind(ends.notes))
+    let part = part_bytes(memory, p);
+    let number = numbers::number_of(part.value)?;
+    Ok(number.behind(part.notes))
 }
 
 // a constant, a number, the length of a string, or NUMBER of a part of one
 #[inline]
 pub fn operand_value(memory: Memory, a: Operand) -> Result<Noted<Int>, Stop>
     requires { OperandHolds a }
-    ensures { NumberAnswers result (operand_in current (memory_in memory.entry.store.now memory.entry.state.now) (operand_meaning a)) }
+    ensures { NumberAnswers result (operand_in current (memory_meaning memory.entry) (operand_meaning a)) }
 {
     match a {
         Operand::Constant(z) => Ok(Noted::plain(z)),
@@ -167,28 +152,6 @@ fn operation(o: Operator, a: Int, b: Int) -> Result<Noted<Int>, Stop>
     }
 }
 
-impl Stack {
-    // z waits
-    fn push(&mut self, z: Int)
-        requires { Pushable self.old z }
-        ensures { OnTop z self.old self.new × Waits self.new }
-    {
-        self.numbers[self.count] = z.value;
-        self.count += 1;
-    }
-
-    // the latest no longer waits
-    fn pop(&mut self) -> Int
-        requires { Poppable self.old }
-        ensures { OnTop result self.new self.old × Waits self.new × IntInRange result }
-    {
-        self.count -= 1;
-        Int {
-            value: self.numbers[self.count],
-        }
-    }
-}
-
 // z with a sign
 fn signed(g: Sign, z: Int) -> Int
     requires { IntInRange z }
@@ -204,7 +167,7 @@ fn signed(g: Sign, z: Int) -> Int
 fn take_item(memory: Memory, x: Item, waiting: &mut Stack) -> Result<u32, Stop>
     requires { Takable x waiting.old }
     ensures { ItemTaken result waiting.new (waiting_after waiting.old.count x)
-        (item_in current (memory_in memory.entry.store.now memory.entry.state.now) (waiting_in waiting.old) (item_meaning x)) }
+        (item_in current (memory_meaning memory.entry) (waiting_in waiting.old) (item_meaning x)) }
 {
     match x {
         Item::Operand(a) => {
@@ -232,13 +195,12 @@ fn pair_value(table: &[u8], memory: Memory, s: Stretch) -> Result<Noted<Int>, St
     requires items_hold { (table_size ≤ length table.now) × ItemsHold table.now s }
     requires pair_at { PairAt table.now s }
     ensures { NumberAnswers result
-        (numeric_in current (memory_in memory.entry.store.now memory.entry.state.now) (items_meaning table.now s)) }
+        (numeric_in current (memory_meaning memory.entry) (items_meaning table.now s)) }
 {
     let from = s.from;
     let a = operand_value(memory, decoder::operand_at(table, from))?;
     let b = operand_value(memory, decoder::operand_at(table, from + 1))?;
-    let operator = decoder::operator_of(decoder::item_kind(table, from + 2));
-    let made = operation(operator, a.value, b.value)?;
+    let made = operation(decoder::operator_at(table, from + 2), a.value, b.value)?;
     Ok(made.behind(a.notes + b.notes))
 }
 
@@ -247,10 +209,10 @@ fn pair_value(table: &[u8], memory: Memory, s: Stretch) -> Result<Noted<Int>, St
 fn items_value(table: &[u8], memory: Memory, s: Stretch) -> Result<Noted<Int>, Stop>
     requires { (table_size ≤ length table.now) × ItemsHold table.now s }
     ensures { NumberAnswers result
-        (numeric_in current (memory_in memory.entry.store.now memory.entry.state.now) (items_meaning table.now s)) }
+        (numeric_in current (memory_meaning memory.entry) (items_meaning table.now s)) }
 {
     let mut waiting = Stack {
-        numbers: [0; WAITING],
+        numbers: [Int { value: 0 }; WAITING],
         count: 0,
     };
     let mut notes = 0;
@@ -268,10 +230,10 @@ fn items_value(table: &[u8], memory: Memory, s: Stretch) -> Result<Noted<Int>, S
 pub fn numeric_value(table: &[u8], memory: Memory, s: Stretch) -> Result<Noted<Int>, Stop>
     requires { (table_size ≤ length table.now) × ItemsHold table.now s }
     ensures { NumberAnswers result
-        (numeric_in current (memory_in memory.entry.store.now memory.entry.state.now) (items_meaning table.now s)) }
+        (numeric_in current (memory_meaning memory.entry) (items_meaning table.now s)) }
 {
     if s.count == 3 {
-        if cell_kinds::CONSTANT <= decoder::item_kind(table, s.from + 1) {
+        if decoder::is_operand_at(table, s.from + 1) {
             return pair_value(table, memory, s);
         }
     }
@@ -290,16 +252,16 @@ fn append(v: &[u8], out: &mut [u8], at: usize)
     store::spans::write(out, at, &v[..end]);
 }
 
-// appends the bytes between two ends
-fn append_between(bytes: &[u8], ends: Ends, out: &mut [u8], at: usize) -> Result<Noted<usize>, Stop>
-    requires lies { Lies bytes.now ends }
+// appends bytes, with the notes that came with them
+fn append_noted(v: Noted<&[u8]>, out: &mut [u8], at: usize) -> Result<Noted<usize>, Stop>
+    requires short { length v.value.now ≤ table_size }
     requires out_len { length out.old ≡ 1024 }
-    ensures { Appends result out.old out.new at (spanned bytes.now ends) }
+    ensures { Appends result out.old out.new at (done v.entry.value.now v.entry.notes) }
 {
-    append(&bytes[ends.from..ends.to], out, at);
+    append(v.value, out, at);
     Ok(Noted {
-        value: ends.to - ends.from,
-        notes: ends.notes,
+        value: v.value.len(),
+        notes: v.notes,
     })
 }
 
@@ -325,11 +287,11 @@ pub fn append_element(
 ) -> Result<Noted<usize>, Stop>
     requires { Addable table.now x out.old }
     ensures { Appends result out.old out.new at
-        (element_in current (memory_in memory.entry.store.now memory.entry.state.now) (element_meaning table.now x)) }
+        (element_in current (memory_meaning memory.entry) (element_meaning table.now x)) }
 {
     match x {
-        Element::Literal(from, to) => append_between(table, Ends { from, to, notes: 0 }, out, at),
-        Element::Part(p) => append_between(memory.store, part_ends(memory, p), out, at),
+        Element::Literal(from, to) => append_noted(Noted::plain(&table[from..to]), out, at),
+        Element::Part(p) => append_noted(part_bytes(memory, p), out, at),
         Element::Text(n, m) => append_text(
             length_value(memory.state, n),
             number_at(memory.state, m),
@@ -349,7 +311,7 @@ pub fn string_value(
     requires elements_hold { (table_size ≤ length table.now) × ElementsHold table.now s }
     requires out_len { length out.old ≡ 1024 }
     ensures { ValueWritten result out.new
-        (string_in current (memory_in memory.entry.store.now memory.entry.state.now) (elements_meaning table.now s)) }
+        (string_in current (memory_meaning memory.entry) (elements_meaning table.now s)) }
 {
     let mut length = 0;
     let mut notes: u32 = 0;
@@ -366,30 +328,30 @@ pub fn string_value(
 }
 
 // whether the string of this place is null
-pub fn is_null(store: &[u8], place: usize) -> Result<Noted<bool>, Stop>
+pub fn is_null(store: &[u8], place: usize) -> bool
     requires store_good { StoreGood store.now }
     requires place_bound { place < 32 }
-    ensures { (state : List ℕ) → truth_worked result ≡ test_in current (memory_in store.now state) (is_null place) }
+    ensures { (state : List ℕ) → done result 0 ≡ test_in current (memory_in store.now state) (is_null place) }
 {
-    Ok(Noted::plain(store::string_length(store, place) == 0))
+    store::string_length(store, place) == 0
 }
 
 // whether a part of a string is numeric
-pub fn is_numeric(memory: Memory, p: Part) -> Result<Noted<bool>, Stop>
+pub fn is_numeric(memory: Memory, p: Part) -> Noted<bool>
     requires { PartHolds p }
-    ensures { truth_worked result ≡ test_in current (memory_in memory.entry.store.now memory.entry.state.now) (is_numeric (part_meaning p)) }
+    ensures { done result.value result.notes ≡ test_in current (memory_meaning memory.entry) (is_numeric (part_meaning p)) }
 {
-    let ends = part_ends(memory, p);
-    Ok(Noted {
-        value: numbers::is_numeric(&memory.store[ends.from..ends.to]),
-        notes: ends.notes,
-    })
+    let part = part_bytes(memory, p);
+    Noted {
+        value: numbers::is_numeric(part.value),
+        notes: part.notes,
+    }
 }
 
 // whether two operands compare as the sign says, the left one valued first
 pub fn compares(memory: Memory, x: If) -> Result<Noted<bool>, Stop>
     requires { IfHolds x }
-    ensures { truth_worked result ≡ test_in current (memory_in memory.entry.store.now memory.entry.state.now) (if_meaning x) }
+    ensures { truth_worked result ≡ test_in current (memory_meaning memory.entry) (if_meaning x) }
 {
     let left = operand_value(memory, x.left)?;
     let right = operand_value(memory, x.right)?;

@@ -1,12 +1,9 @@
 -- What carrying out a statement that doesn't scan leaves in the buffers. Assumes nothing.
-use Rattle.std.specs.Prelude.{Ok, Err, true, List, ◌≡◌, ℕ, length, get_or, set}
+use Rattle.std.specs.Prelude.{Ok, Err, true, List, ◌≡◌, ℕ, ◌+◌, length, get_or, set}
 use Rattle.base.specs.Current.{current}
 use Rattle.encoding.specs.Buffers.{store_keeps, state_keeps, state_in}
-use Rattle.calls.specs.Calls.{Buffers, left_of, buffers}
-use Rattle.evaluator.specs.Memory.{memory_in}
-use Rattle.evaluator.specs.Values.{Truth, truth_worked}
-use Rattle.syntax.specs.Program.{Program, Statement, Test, Branch, if_test}
-use Rattle.machine.specs.Expressions.{test_in}
+use Rattle.calls.specs.Calls.{Buffers, left_of}
+use Rattle.syntax.specs.Program.{Program, Statement}
 use Rattle.machine.specs.State.{State}
 use Rattle.machine.specs.Step.{Done, no_scan, execution}
 use Rattle.effects.specs.Leaving.{Completion}
@@ -44,17 +41,7 @@ abbrev pub Does : Statement → Completion → (b left : Buffers) → (input : L
 Does x r b left input =
     (p : Program) → StatementStanding p input b → Executes r input b left (execution current (length b.output) x (machine_in input b))
 
--- a branch taken by what a test came to: the IF that asks it is carried out, whatever the test and the buffers besides
-abbrev pub TakesBranch : Truth → Branch → Completion → (state left : List ℕ) → Type 0
-TakesBranch t f r state left =
-    (store input output : List ℕ) (x : Test) → truth_worked t ≡ test_in current (memory_in store state) x
-    → Does (if_test x f) r (buffers store state output) (buffers store left output) input
-
--- the state moved on to a step, if a statement's work is done
-abbrev pub moved_on : Completion → List ℕ → ℕ → List ℕ
-moved_on (Ok notes) state k = set state 1 k
-moved_on (Err s) state k = state
-
-pub record MovesOn (asked r : Completion) (state left : List ℕ) (k : ℕ) : Type 0 where
-  pub same : r ≡ asked
-  pub left_is : left ≡ moved_on asked state k
+-- the state moved on to the step behind, if a statement's work is done
+abbrev pub moved_on : Completion → List ℕ → List ℕ
+moved_on (Ok notes) state = set state 1 (get_or state 1 0 + 1)
+moved_on (Err s) state = state

@@ -6,9 +6,10 @@ use Rattle.std.proofs.Common.{◌∙◌, arith, take-append-drop}
 use Prim.Native.Nat.{ℕ, suc, ◌+◌, ◌-◌, ◌≤◌, ◌<◌}
 use Rattle.std.proofs.Math.Numerals.{add-one}
 use Rattle.std.proofs.Math.ListN.{length, take, drop, get_or, set, length-drop}
-use Rattle.std.proofs.Math.Seq.{length-take-le, get_or-set_same}
+use Rattle.std.proofs.Math.Seq.{length-take-le, get_or-set_same, get_or-set_other}
 use Rattle.base.specs.Current.{current}
 use Rattle.encoding.specs.BufferLaws.{StoreGood, keeps_good}
+use Rattle.encoding.specs.Numerals.{biased}
 use Rattle.encoding.specs.Buffers.{strings_in, numbers_in, status_of, state_in, store_image, store_left, output_left, store_size}
 use Rattle.calls.specs.Calls.{Buffers, left_of, buffers}
 use Rattle.calls.specs.GivenLaws.{StateInRange, state_in_range, given_holds, returns-count}
@@ -29,7 +30,7 @@ use Rattle.state.specs.Laws.{StateLeaves, leaves_all, holding-leaves, leaves_goi
 use Rattle.values.specs.Result.{Result, done, stop, pure, ◌>>=◌}
 use Rattle.values.specs.Stops.{stop_number}
 use Rattle.values.specs.ResultLaws.{bound, stopped, bound-twice}
-use Rattle.execution.specs.Executing.{StatementStanding, machine_in, Moved, Unmoved, Executes, moved_on, MovesOn}
+use Rattle.execution.specs.Executing.{StatementStanding, machine_in, Moved, Unmoved, Executes, moved_on}
 
 -- a return changes no string and no output
 returning_keeps : (rs : List ℕ) (c : State) → ((returning rs c).memory ≡ c.memory) × ((returning rs c).output ≡ c.output)
@@ -103,57 +104,60 @@ module _ (p : Program) (input : List ℕ) (b : Buffers) (s : StatementStanding p
   finishes =
       record { machine = with_status finished c; work = refl; left_is = stays_parts (with_status finished c) _ refl refl (leaves_finished given_leaves) }
 
+  -- the step behind the next one
+  behind : (state : List ℕ) → get_or state 1 0 ≡ get_or b.state 1 0 → get_or state 1 0 + 1 ≡ suc c.next
+  unfolding state_in
+  behind state e = ap (λ (n : ℕ). n + 1) e ∙ add-one (get_or b.state 1 0)
+
   -- a number set
-  pub sets_number_lem : (r : Completion) (state : List ℕ) (place next : ℕ) (xs : List Program.Item) → place < 32 → next ≡ get_or b.state 1 0 + 1
+  pub sets_number_lem : (r : Completion) (state : List ℕ) (place : ℕ) (xs : List Program.Item) → place < 32
       → Assigns r b.state state place (numeric_in current (memory_in b.store b.state) xs)
-      → Executes r input b (buffers b.store (moved_on r state next) b.output)
+      → Executes r input b (buffers b.store (moved_on r state) b.output)
       (execution current (length b.output) (Program.set_number place xs) (machine_in input b))
   unfolding execution moving pure going_to with_number state_in
-  sets_number_lem (Ok notes) state place next xs h e a =
+  sets_number_lem (Ok notes) state place xs h a =
       let z = a.value in
       let m = going_to (suc c.next) (with_number c.memory place z) c in
-      let step : next ≡ suc c.next = e ∙ add-one (get_or b.state 1 0) in
-      let moved : StateLeaves b.state input m (set state 1 next) =
-      rw (a.left_is, step) (leaves_number given_leaves place z (suc c.next) h) in
+      let same = ap (λ (l : List ℕ). get_or l 1 0) a.left_is ∙ get_or-set_other b.state (21 + place) 1 (biased z) 0 (λ e. omega (arith, e)) in
+      let moved : StateLeaves b.state input m (moved_on (Ok notes) state) =
+      rw (behind state same, a.left_is) (leaves_number given_leaves place z (suc c.next) h) in
       record {
         machine = m;
         work = bound _ _ z notes (record { state = m; scanned = no_scan }) a.work refl;
         left_is = stays_parts m _ refl refl moved;
       }
-  sets_number_lem (Err x) state place next xs h e a =
+  sets_number_lem (Err x) state place xs h a =
       record { work = stopped _ _ (stop_number x) a.1; same = ap (λ (l : List ℕ). buffers b.store l b.output) a.0 }
 
   -- a string set
-  pub sets_string : (r : Completion) (store : List ℕ) (next : ℕ) (q : Part) (xs : List Program.Element) → next ≡ get_or b.state 1 0 + 1
+  pub sets_string : (r : Completion) (store : List ℕ) (q : Part) (xs : List Program.Element)
       → ValueStored r b.store store b.state (set_string_in current (memory_in b.store b.state) q xs)
-      → Executes r input b (buffers store (moved_on r b.state next) b.output)
+      → Executes r input b (buffers store (moved_on r b.state) b.output)
       (execution current (length b.output) (Program.set_string q xs) (machine_in input b))
   unfolding execution moving pure going_to state_in
-  sets_string (Ok notes) store next q xs e a =
+  sets_string (Ok notes) store q xs a =
       let left = memory_of store (numbers_in b.state) in
       let m = going_to (suc c.next) left c in
-      let step : next ≡ suc c.next = e ∙ add-one (get_or b.state 1 0) in
-      let moved : StateLeaves b.state input m (set b.state 1 next) = rw step (leaves_going given_leaves (suc c.next) left refl) in
+      let moved : StateLeaves b.state input m (moved_on (Ok notes) b.state) = rw (behind b.state refl) (leaves_going given_leaves (suc c.next) left refl) in
       record {
         machine = m;
         work = bound _ _ left notes (record { state = m; scanned = no_scan }) a.leaves.1 refl;
         left_is = left-parts m store _ b.output a.leaves.0 refl moved (output_same m refl);
       }
-  sets_string (Err x) store next q xs e a =
+  sets_string (Err x) store q xs a =
       record { work = stopped _ _ (stop_number x) a.leaves.1; same = ap (λ (l : List ℕ). buffers l b.state b.output) a.leaves.0 }
 
   -- IF
-  pub tests : (holds : Bool) (notes k : ℕ) (t : Program.Test) (f : Branch) → k ≡ chosen holds f
-      → test_in current (memory_in b.store b.state) t ≡ done holds notes
-      → Moved input b (buffers b.store (set b.state 1 k) b.output) notes
+  pub tests : (holds : Bool) (notes : ℕ) (t : Program.Test) (f : Branch) → test_in current (memory_in b.store b.state) t ≡ done holds notes
+      → Moved input b (buffers b.store (set b.state 1 (chosen holds f)) b.output) notes
       (execution current (length b.output) (Program.if_test t f) (machine_in input b))
   unfolding execution moving pure going_to state_in
-  tests holds notes k t f e w =
+  tests holds notes t f w =
       let m = going_to (chosen holds f) c.memory c in
       record {
         machine = m;
         work = bound _ _ holds notes (record { state = m; scanned = no_scan }) w refl;
-        left_is = stays_parts m _ refl refl (rw e (leaves_going given_leaves (chosen holds f) c.memory refl));
+        left_is = stays_parts m _ refl refl (leaves_going given_leaves (chosen holds f) c.memory refl);
       }
 
   pub test_stops : (k : ℕ) (t : Program.Test) (f : Branch) → test_in current (memory_in b.store b.state) t ≡ stop k
@@ -193,13 +197,13 @@ module _ (p : Program) (input : List ℕ) (b : Buffers) (s : StatementStanding p
       record { work = a.work f c has_all; same = λ i. record { store = a.same i; state = a.state_same i; output = b.output } }
 
   -- WRITE
-  pub writes : (r : Completion) (state output : List ℕ) (next : ℕ) (xs : List Program.Element) → next ≡ get_or b.state 1 0 + 1
+  pub writes : (r : Completion) (state output : List ℕ) (xs : List Program.Element)
       → RecordPutBy r b.state state b.output output
       (λ m. string_in current (memory_in b.store b.state) xs >>= λ v. shortened v >>= λ w. put_record (length b.output) w m)
-      → Executes r input b (buffers b.store (moved_on r state next) output)
+      → Executes r input b (buffers b.store (moved_on r state) output)
       (execution current (length b.output) (Program.write xs) (machine_in input b))
   unfolding execution moving pure going_to with_output state_in output_left
-  writes (Ok notes) state output next xs e a =
+  writes (Ok notes) state output xs a =
       let n = a.reaches in
       let text = string_in current (memory_in b.store b.state) xs in
       let put : State → Result Done = λ d. moving (going_to (suc c.next) c.memory d) in
@@ -208,9 +212,9 @@ module _ (p : Program) (input : List ℕ) (b : Buffers) (s : StatementStanding p
       let inside : n ≤ length output = omega (arith, a.inside, a.size) in
       let size = length-take-le n output inside in
       let outputs : take n output ++ drop (length (take n output)) b.output ≡ output = rw size (rw (sym a.rest) (take-append-drop n output)) in
-      let step : next ≡ suc c.next = e ∙ add-one (get_or b.state 1 0) in
+      let same = ap (λ (l : List ℕ). get_or l 1 0) a.state_is ∙ get_or-set_other b.state 4 1 n 0 (λ e. omega (arith, e)) in
       let written : StateLeaves b.state input d state = rw a.state_is (leaves_output given_leaves n (take n output) (sym size)) in
-      let moved : StateLeaves b.state input m (set state 1 next) = rw step (leaves_going written (suc c.next) c.memory refl) in
+      let moved : StateLeaves b.state input m (moved_on (Ok notes) state) = rw (behind state same) (leaves_going written (suc c.next) c.memory refl) in
       let order : (text >>= λ v. shortened v >>= λ w. put_record (length b.output) w c >>= put)
       ≡ (text >>= (λ v. shortened v >>= λ w. put_record (length b.output) w c) >>= put) =
       ap (λ (f : List ℕ → Result Done). text >>= f) (λ i v. bound-twice (shortened v) (λ w. put_record (length b.output) w c) put i)
@@ -220,7 +224,7 @@ module _ (p : Program) (input : List ℕ) (b : Buffers) (s : StatementStanding p
         work = order ∙ bound _ _ d notes (record { state = m; scanned = no_scan }) (a.work c refl) refl;
         left_is = left-parts m b.store _ output (stays_same b.store good) refl moved outputs;
       }
-  writes (Err x) state output next xs e a =
+  writes (Err x) state output xs a =
       let text = string_in current (memory_in b.store b.state) xs in
       let put : State → Result Done = λ d. moving (going_to (suc c.next) c.memory d) in
       let order : (text >>= λ v. shortened v >>= λ w. put_record (length b.output) w c >>= put)
@@ -238,17 +242,16 @@ module _ (p : Program) (input : List ℕ) (b : Buffers) (s : StatementStanding p
   returns-held = returns-count b.state (omega (arith, s.size, facts.count))
 
   -- EXECUTE
-  pub executes : (next k : ℕ) → next ≡ get_or b.state 1 0 + 1 → get_or b.state 2 0 < 16
+  pub executes : (k : ℕ) → get_or b.state 2 0 < 16
       → Moved input b
-      (buffers b.store (set (set (set b.state (5 + get_or b.state 2 0) next) 2 (get_or b.state 2 0 + 1)) 1 k) b.output) 0
+      (buffers b.store (set (set (set b.state (5 + get_or b.state 2 0) (get_or b.state 1 0 + 1)) 2 (get_or b.state 2 0 + 1)) 1 k) b.output) 0
       (execution current (length b.output) (Program.execute k) (machine_in input b))
   unfolding execution moving pure going_to with_returns state_in
-  executes next k e h =
+  executes k h =
       let m = with_returns (suc c.next ∷ c.returns) (going_to k c.memory c) in
-      let step : next ≡ suc c.next = e ∙ add-one (get_or b.state 1 0) in
       let room : length c.returns < 16 = omega (arith, returns-held) in
       let held = leaves_push given_leaves (suc c.next) room in
-      record { machine = m; work = refl; left_is = stays_parts m _ refl refl (rw step (leaves_going held k c.memory refl)) }
+      record { machine = m; work = refl; left_is = stays_parts m _ refl refl (rw (behind b.state refl) (leaves_going held k c.memory refl)) }
 
   -- RETURN
   pub returns_to : (state : List ℕ) (k : ℕ) → Popped b.state k state → 0 < get_or b.state 2 0
@@ -264,9 +267,3 @@ module _ (p : Program) (input : List ℕ) (b : Buffers) (s : StatementStanding p
         work = refl;
         left_is = stays_parts m _ (ap (λ (x : Memory). x.strings) kept.0) kept.1 (rw (a.others, a.latest) (leaves_return given_leaves some));
       }
-
--- what a statement's work leaves, with the state that move_on leaves
-pub executes_on : {asked r : Completion} {state left : List ℕ} {k : ℕ} (input : List ℕ) (b : Buffers) (store output : List ℕ) (w : Result Done)
-    → MovesOn asked r state left k → Executes asked input b (buffers store (moved_on asked state k) output) w
-    → Executes r input b (buffers store left output) w
-executes_on input b store output w m h = rw (m.same, m.left_is) h

@@ -1,10 +1,10 @@
 // Each kind of statement carried out on the buffers, the state moved on with it; a scan is not among them.
 // Each contract says what the machine's work on the statement comes to (machine/Step: execution) and what that leaves in the buffers.
 // kept: table, store and state come apart, as effects/valued.rt says; a string's buffer is a slice, as crate evaluator says
-// kept: next, one behind the state's step, is handed on: interpreter has read the step already, and it would be read again
+// kept: each answers notes or a stop, also where nothing stops it: they are the arms of one match, which then needs no Ok(0) in five of them
 #![tactic(auto)]
 
-ghost use Rattle.std.specs.Prelude.{List, ◌≡◌, ℕ, ◌+◌, ◌≤◌, ◌<◌, length, get_or};
+ghost use Rattle.std.specs.Prelude.{List, ◌≡◌, ℕ, ◌+◌, ◌≤◌, ◌<◌, ◌^◌, length, get_or, set};
 ghost use Rattle.calls.specs.Calls.{buffers};
 ghost use Rattle.encoding.specs.BufferLaws.{StoreGood};
 ghost use Rattle.evaluator.specs.Memory.{MemoryReady};
@@ -14,30 +14,31 @@ ghost use Rattle.decoder.specs.Holds.{PartHolds, IfHolds};
 ghost use Rattle.encoding.specs.Meaning.{branch_meaning};
 ghost use Rattle.decoder.specs.Meaning.{part_meaning, if_meaning, items_meaning, elements_meaning};
 ghost use Rattle.effects.specs.Valued.{ValueSpellable, Valuable, StateWritable};
-ghost use Rattle.execution.specs.Executing.{Does, MovesOn, TakesBranch};
+ghost use Rattle.execution.specs.Executing.{Does};
 
 use decoder::{If, Part, Stretch};
 use encoding::STATE_SIZE;
 use encoding::cells::Branch;
 use evaluator::Memory;
-use values::{Noted, Stop};
+use values::Stop;
 
-// the step of a branch field
-// kept: success is a truth with no value beside it: what a test, a READ or a scan came to
-#[tactic(auto, unfolding(machine::specs::Step::chosen))]
-pub fn choose(success: bool, b: Branch) -> usize
-    ensures { result ≡ chosen success (branch_meaning b) }
+// moves on to the step behind the state's
+fn move_on(state: &mut [u64; STATE_SIZE])
+    requires { get_or state.old 1 0 + 1 < 2 ^ 64 }
+    ensures { state.new ≡ set state.old 1 (get_or state.old 1 0 + 1) }
 {
-    if success { b.success } else { b.failure }
+    let next = state::next_step(state) + 1;
+    state::go_to(state, next);
 }
 
-// moves on to a step where a statement's work is done; what stops it changes nothing
-fn move_on(state: &mut [u64; STATE_SIZE], k: usize, did: Result<u32, Stop>) -> Result<u32, Stop>
-    ensures { MovesOn did result state.old state.new k }
+// moves on by a branch, to its step for success or to that for failure
+// kept: success is a truth with no value beside it: what a test, a READ or a scan came to
+#[tactic(auto, unfolding(machine::specs::Step::chosen))]
+pub fn take_branch(state: &mut [u64; STATE_SIZE], success: bool, b: Branch)
+    ensures { state.new ≡ set state.old 1 (chosen success (branch_meaning b)) }
 {
-    let notes = did?;
+    let k = if success { b.success } else { b.failure };
     state::go_to(state, k);
-    Ok(notes)
 }
 
 // a number set to an expression's value
@@ -46,17 +47,17 @@ pub fn set_number(
     table: &[u8],
     store: &[u8],
     state: &mut [u64; STATE_SIZE],
-    next: usize,
     place: usize,
     s: Stretch,
 ) -> Result<u32, Stop>
     requires valuable { Valuable table.now store.now state.old s }
-    requires place_bound { (place < 32) × (next ≡ get_or state.old 1 0 + 1) }
+    requires place_bound { (place < 32) × (get_or state.old 1 0 + 1 < 2 ^ 64) }
     ensures { (input output : List ℕ) → Does (Program.set_number place (items_meaning table.now s)) result
         (buffers store.now state.old output) (buffers store.now state.new output) input }
 {
-    let did = effects::valued::assign(table, store, state, place, s);
-    move_on(state, next, did)
+    let notes = effects::valued::assign(table, store, state, place, s)?;
+    move_on(state);
+    Ok(notes)
 }
 
 // a string set, or its first bytes, to an expression's value, which out keeps on the way
@@ -64,19 +65,19 @@ pub fn set_string(
     table: &[u8],
     store: &mut [u8],
     state: &mut [u64; STATE_SIZE],
-    next: usize,
     p: Part,
     s: Stretch,
     out: &mut [u8],
 ) -> Result<u32, Stop>
     requires value_spellable { ValueSpellable table.now store.old state.old s }
-    requires part_holds { PartHolds p × (next ≡ get_or state.old 1 0 + 1) }
+    requires part_holds { PartHolds p × (get_or state.old 1 0 + 1 < 2 ^ 64) }
     requires out_len { length out.old ≡ 1024 }
     ensures { (input output : List ℕ) → Does (Program.set_string (part_meaning p) (elements_meaning table.now s)) result
         (buffers store.old state.old output) (buffers store.new state.new output) input }
 {
-    let did = effects::valued::set_string(table, store, state, p, s, out);
-    move_on(state, next, did)
+    let notes = effects::valued::set_string(table, store, state, p, s, out)?;
+    move_on(state);
+    Ok(notes)
 }
 
 // GOTO to the step of its label, and ROUTINE to the one behind its ENDROUTINE
@@ -97,19 +98,6 @@ pub fn finish(state: &mut [u64; STATE_SIZE]) -> Result<u32, Stop>
     Ok(0)
 }
 
-// takes the branch that a test asks for; what stops the test changes nothing
-fn take_branch(
-    state: &mut [u64; STATE_SIZE],
-    t: Result<Noted<bool>, Stop>,
-    b: Branch,
-) -> Result<u32, Stop>
-    ensures { TakesBranch t (branch_meaning b) result state.old state.new }
-{
-    let test = t?;
-    state::go_to(state, choose(test.value, b));
-    Ok(test.notes)
-}
-
 // IF NULL
 pub fn if_null(
     store: &[u8],
@@ -121,7 +109,9 @@ pub fn if_null(
     ensures { (input output : List ℕ) → Does (Program.if_test (Program.is_null place) (branch_meaning b)) result
         (buffers store.now state.old output) (buffers store.now state.new output) input }
 {
-    take_branch(state, evaluator::is_null(store, place), b)
+    let null = evaluator::is_null(store, place);
+    take_branch(state, null, b);
+    Ok(0)
 }
 
 // IF NUMERIC
@@ -136,8 +126,9 @@ pub fn if_numeric(
     ensures { (input output : List ℕ) → Does (Program.if_test (Program.is_numeric (part_meaning p)) (branch_meaning b)) result
         (buffers store.now state.old output) (buffers store.now state.new output) input }
 {
-    let t = evaluator::is_numeric(Memory { store, state }, p);
-    take_branch(state, t, b)
+    let test = evaluator::is_numeric(Memory { store, state }, p);
+    take_branch(state, test.value, b);
+    Ok(test.notes)
 }
 
 // IF with two operands and a sign
@@ -152,8 +143,9 @@ pub fn if_compares(
     ensures { (input output : List ℕ) → Does (Program.if_test (if_meaning x) (branch_meaning b)) result
         (buffers store.now state.old output) (buffers store.now state.new output) input }
 {
-    let t = evaluator::compares(Memory { store, state }, x);
-    take_branch(state, t, b)
+    let test = evaluator::compares(Memory { store, state }, x)?;
+    take_branch(state, test.value, b);
+    Ok(test.notes)
 }
 
 // READ
@@ -170,7 +162,7 @@ pub fn read(
         (buffers store.old state.old output) (buffers store.new state.new output) input.now }
 {
     let success = effects::reading::read_record(store, state, input, p)?;
-    state::go_to(state, choose(success, b));
+    take_branch(state, success, b);
     Ok(0)
 }
 
@@ -180,27 +172,28 @@ pub fn write(
     store: &[u8],
     state: &mut [u64; STATE_SIZE],
     output: &mut [u8],
-    next: usize,
     s: Stretch,
     out: &mut [u8],
 ) -> Result<u32, Stop>
     requires value_spellable { ValueSpellable table.now store.now state.old s }
-    requires state_writable { StateWritable state.old output.old × (next ≡ get_or state.old 1 0 + 1) }
+    requires state_writable { StateWritable state.old output.old × (get_or state.old 1 0 + 1 < 2 ^ 64) }
     requires out_len { length out.old ≡ 1024 }
     ensures { (input : List ℕ) → Does (Program.write (elements_meaning table.now s)) result
         (buffers store.now state.old output.old)
         (buffers store.now state.new output.new) input }
 {
-    let did = effects::valued::write_record(table, store, state, s, output, out);
-    move_on(state, next, did)
+    let notes = effects::valued::write_record(table, store, state, s, output, out)?;
+    move_on(state);
+    Ok(notes)
 }
 
 // EXECUTE: a return held to the step behind it
-pub fn execute(state: &mut [u64; STATE_SIZE], next: usize, k: usize) -> Result<u32, Stop>
-    requires { (get_or state.old 2 0 < 16) × (next ≡ get_or state.old 1 0 + 1) }
+pub fn execute(state: &mut [u64; STATE_SIZE], k: usize) -> Result<u32, Stop>
+    requires { (get_or state.old 2 0 < 16) × (get_or state.old 1 0 + 1 < 2 ^ 64) }
     ensures { (store input output : List ℕ) → Does (Program.execute k) result
         (buffers store state.old output) (buffers store state.new output) input }
 {
+    let next = state::next_step(state) + 1;
     state::push_return(state, next);
     state::go_to(state, k);
     Ok(0)

@@ -21,7 +21,7 @@ use Rattle.scanning.specs.Trials.{Scanned}
 use Rattle.effects.specs.Leaving.{Completion}
 use Rattle.values.specs.Result.{Result, done}
 use Rattle.values.specs.Stops.{stop_number}
-use Rattle.interpreter.specs.Endings.{outcome_meaning, step_number, step_notes}
+use Rattle.interpreter.specs.Endings.{outcome_meaning, ended_number, step_number, step_notes}
 use Rattle.interpreter.specs.declared.Halt.{Halt}
 use Rattle.interpreter.specs.declared.Halt.TheVariants as halts
 use Rattle.interpreter.specs.declared.run.Ran.{Ran}
@@ -59,11 +59,10 @@ pub record Allowed (table input : List ℕ) (b : Buffers) : Type 0 where
   pub running : get_or b.state 0 0 ≡ 0
   pub enough : lacks_return (next_statement table b.state) (reverse (returns_in b.state)) ≡ false
 
--- the statement of one as it was read, with the step behind it
-pub record StepGoing (table input : List ℕ) (b : Buffers) (next : ℕ) (x : Statement) : Type 0 where
+-- the statement of one as it was read
+pub record StepGoing (table input : List ℕ) (b : Buffers) (x : Statement) : Type 0 where
   pub given : Given table input b
   pub running : get_or b.state 0 0 ≡ 0
-  pub next-is : next ≡ get_or b.state 1 0 + 1
   pub means : statement_meaning table x ≡ next_statement table b.state
   pub holds : StatementHolds table (numeral_at 2 table 2) x
   pub returns : ReturnsEnough x (get_or b.state 2 0)
@@ -125,7 +124,7 @@ pub record StepTaken (s : StepCalled) (r : std.Result ℕ Halt) (answer : List �
 -- outcome, number, steps done, their notes and buffers left are those of a run
 pub record RunAnswers (r : RunCalled) (ran : Ran) (left : Buffers) : Type 0 where
   pub outcome_is : outcome_meaning ran.outcome ≡ r.outcome
-  pub number_is : ran.number ≡ r.number
+  pub number_is : ended_number ran.outcome ≡ r.number
   pub steps_are : ran.steps ≡ r.steps
   pub notes_are : ran.notes ≡ r.notes
   pub left_is : left ≡ r.left

@@ -58,24 +58,31 @@ checked_number (Err refusal) = refusal_number refusal
 -- document 01's word for how a run ended
 abbrev pub outcome_meaning : Outcome → Run.Outcome
 outcome_meaning Finished = Run.FINISHED
-outcome_meaning Stopped = Run.STOPPED
+outcome_meaning (Stopped s) = Run.STOPPED
 outcome_meaning Spent = Run.SPENT
-outcome_meaning Refused = Run.REFUSED
+outcome_meaning (Refused refusal) = Run.REFUSED
+
+-- and the number of what stopped it or turned it down, 0 where nothing did
+abbrev pub ended_number : Outcome → ℕ
+ended_number Finished = 0
+ended_number (Stopped s) = stop_number s
+ended_number Spent = 0
+ended_number (Refused refusal) = refusal_number refusal
 
 -- a run that a step ended, with the steps done before it and their notes
 abbrev pub halted : Halt → ℕ → ℕ → Ran
-halted (halts.Stopped s) done notes = record { outcome = Stopped; number = stop_number s; steps = done + 1; notes = notes }
-halted (halts.Refused refusal) done notes = record { outcome = Refused; number = refusal_number refusal; steps = done; notes = notes }
+halted (halts.Stopped s) done notes = record { outcome = Stopped s; steps = done + 1; notes = notes }
+halted (halts.Refused refusal) done notes = record { outcome = Refused refusal; steps = done; notes = notes }
 
 -- its number is the step's
-pub halted_number : (h : Halt) (done notes : ℕ) → (halted h done notes).number ≡ step_number (Err h)
+pub halted_number : (h : Halt) (done notes : ℕ) → ended_number (halted h done notes).outcome ≡ step_number (Err h)
 halted_number (halts.Stopped s) done notes = refl
 halted_number (halts.Refused refusal) done notes = refl
 
 -- the numbers of a run's result
 abbrev pub ran_numbers : Ran → List ℕ
-ran_numbers r = result_numbers (outcome_meaning r.outcome) r.number r.steps r.notes
+ran_numbers r = result_numbers (outcome_meaning r.outcome) (ended_number r.outcome) r.steps r.notes
 
 -- what the run call gives back of it
 abbrev pub ran_back : Ran → Buffers → RunReturned
-ran_back r left = run_back r.number (ran_numbers r) left
+ran_back r left = run_back (ended_number r.outcome) (ran_numbers r) left

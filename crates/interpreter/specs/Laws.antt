@@ -7,7 +7,6 @@ use Rattle.std.proofs.Math.Option.{Option, none, some}
 use Rattle.std.proofs.Math.Path.{refl, ap, ap₂}
 use Rattle.std.proofs.Common.{sym, ◌∙◌, subst, arith}
 use Rattle.std.proofs.Math.Dec.{eqb}
-use Rattle.std.proofs.lemmas.List.{length-replicate}
 use borrow.Author.Tests.{leb-false, ltb-false, eqb-true, ne_eqb, not-false}
 use Rattle.base.specs.Choice.{cond_cases}
 use Rattle.base.specs.Current.{current, table_size}
@@ -42,7 +41,7 @@ use Rattle.decoder.specs.declared.Statement.TheVariants as statements
 use Rattle.scanning.specs.Call.{answer_numbers, most_elements, no_answer, split_numbers}
 use Rattle.scanning.specs.Splits.{Split}
 use Rattle.scanning.specs.Trials.{Scanned}
-use Rattle.scan_statement.specs.Scans.{ScanLent, SplitEnds, is_split, scanning_of}
+use Rattle.scan_statement.specs.Scans.{SplitEnds, is_split, scanning_of}
 use Rattle.scan_statement.specs.SearchLaws.{answer_noted}
 use Rattle.effects.specs.Leaving.{Completion}
 use Rattle.values.specs.Result.{Result, stop, pure}
@@ -222,7 +221,7 @@ module _ {table input : List ℕ} {b : Buffers} (g : Given table input b) where
       })
 
 -- a statement of the table that the machine doesn't turn down, by the name y of it
-module _ {table input : List ℕ} {b : Buffers} {next : ℕ} {x : Statement} (g : StepGoing table input b next x) where
+module _ {table input : List ℕ} {b : Buffers} {x : Statement} (g : StepGoing table input b x) where
   pub going_standing : StatementStanding (program_in table) input b
   going_standing = given_standing g.given g.running
 
@@ -309,7 +308,7 @@ enough_returns t statements.Return (k ∷ rs) held e h = omega arith
 
 -- the statement read of a step that is allowed
 pub allowed_going : {table input : List ℕ} {b : Buffers} → Allowed table input b → {k : ℕ} {x : Statement} → k ≡ get_or b.state 1 0
-    → StatementDecoded table (read_row_at table (steps_at + 24 * k)) x → StepGoing table input b (k + 1) x
+    → StatementDecoded table (read_row_at table (steps_at + 24 * k)) x → StepGoing table input b x
 allowed_going {table} {b = b} a {x = x} e read =
     let g = a.given in
     let here = statement_next g e read in
@@ -317,7 +316,6 @@ allowed_going {table} {b = b} a {x = x} e read =
     record {
       given = g;
       running = a.running;
-      next-is = ap (λ (n : ℕ). n + 1) e;
       means = means;
       holds = kept_statement table g.keeps (get_or b.state 1 0) x (next_inside g).0 here;
       returns =
@@ -332,15 +330,14 @@ goes_to (some s) b = refl
 goes_to none b = refl
 
 -- SCAN and BACKSCAN, by the step that they go to
-pub scan_works : {p : Program} {input : List ℕ} {b : Buffers} → StatementStanding p input b → (table : List ℕ) (s : Scan) {store answer : List ℕ} {notes k : ℕ}
+pub scan_works : {p : Program} {input : List ℕ} {b : Buffers} → StatementStanding p input b → (table : List ℕ) (s : Scan) {store answer : List ℕ} {notes : ℕ}
     {is : Bool} → SplitEnds is b.store store b.state answer notes (scanning_of table b.store b.state s)
-    → k ≡ chosen is (branch_meaning s.branch)
-    → Worked input b (buffers store (set b.state 1 k) b.output) answer notes (work_of input b (statement_meaning table (statements.Scan s)))
+    → Worked input b (buffers store (set b.state 1 (chosen is (branch_meaning s.branch))) b.output) answer notes (work_of input b (statement_meaning table (statements.Scan s)))
 unfolding execution pure state_in
-scan_works {p} {input} {b} stands table s {store} {notes = notes} f asks =
+scan_works {p} {input} {b} stands table s {store} {notes = notes} f =
     let e = f.ended in
     let to = scanned_to e.scanned.split (branch_meaning s.branch) in
-    let goes = asks ∙ ap (λ t. chosen t (branch_meaning s.branch)) (sym f.found) ∙ goes_to e.scanned.split (branch_meaning s.branch) in
+    let goes = ap (λ t. chosen t (branch_meaning s.branch)) (sym f.found) ∙ goes_to e.scanned.split (branch_meaning s.branch) in
     record {
       machine = _;
       scanned = e.scanned;
@@ -360,14 +357,10 @@ scan_stops input b table s store k same w =
     record { work = stopped _ _ k w; same = ap (λ (l : List ℕ). buffers l b.state b.output) same }
 
 -- zeros are a good store
-zeros_good : StoreGood (replicate store_size 0)
+pub zeros_good : StoreGood (replicate store_size 0)
 zeros_good =
     subst StoreGood (append-nil (store_image (replicate 32 [])) ∙ fresh-image 32) (image_good (replicate 32 []) [] refl
     (replicate_everywhere (λ (v : List ℕ). length v ≤ 1024) 32 [] (omega arith)))
-
--- and zeros are buffers that a scan can work in
-pub zeros-lent : ScanLent (replicate 20480 0) (replicate store_size 0)
-zeros-lent = record { twenty_strings = length-replicate {A = ℕ} 20480 0; good = zeros_good }
 
 -- what the tests of unfit tell
 refused_as : (small rules store state : Bool) (n m : ℕ) → m ≡ cond small 2 (cond rules 13 (cond store 14 (cond state 15 0))) → 0 < m

@@ -1,25 +1,26 @@
 -- The laws of a run: the buffers that a step leaves may be given to the next, and each step brings the run's result nearer. Assumes nothing.
-use Rattle.std.specs.Prelude.{true, false, not, Result, Ok, Err, List, ◌≡◌, refl, ℕ, suc, ◌+◌, ◌*◌, ◌-◌, ◌≤◌, ◌<◌, ltb, eqb, length, replicate}
+use Rattle.std.specs.Prelude.{true, false, Result, Ok, Err, List, ◌≡◌, refl, ℕ, suc, ◌+◌, ◌*◌, ◌-◌, ◌≤◌, ◌<◌, eqb, length, replicate}
 use Rattle.std.proofs.Common.{sym, ◌∙◌, subst}
 use Rattle.std.proofs.Math.Path.{ap}
 use native.Mathlib.Omega.{arith}
 use Rattle.std.proofs.Math.ListN.{get_or}
 use borrow.Author.Tests.{le-ltb, lt-ltb}
-use Rattle.base.specs.Current.{current, table_size}
-use Rattle.encoding.specs.Buffers.{state_keeps, store_keeps}
+use Rattle.base.specs.Current.{current}
+use Rattle.encoding.specs.Buffers.{state_keeps}
 use Rattle.calls.specs.Calls.{Buffers, StepCalled, RunCalled, step_call, run_call, run_behind, run_ended, run_with_step}
 use Rattle.encoding.specs.Conditions.{current-limit, current_wide}
-use Rattle.encoding.specs.Rules.{keeps_rules}
-use Rattle.calls.specs.StopLaws.{passed_holds, refusal_unstopped}
+use Rattle.calls.specs.StopLaws.{passed_holds}
 use Rattle.encoding.specs.TableReading.{program_in}
 use Rattle.values.specs.Result.{stops_step}
 use Rattle.values.specs.ResultLaws.{zero_unstopped}
 use Rattle.values.specs.Stops.{stop_number, stop_number_stops}
 use Rattle.interpreter.specs.declared.Halt.{Halt}
 use Rattle.interpreter.specs.declared.Halt.TheVariants as halts
-use Rattle.interpreter.specs.Endings.{halted, refusal_some, refusal_unstops, step_number, step_notes}
+use Rattle.interpreter.specs.declared.Refusal.{Refusal}
+use Rattle.values.specs.declared.Stop.{Stop}
+use Rattle.interpreter.specs.Endings.{halted, refusal_number, refusal_some, refusal_unstops, step_number, step_notes}
 use Rattle.interpreter.specs.declared.run.Outcome.TheVariants.{Finished, Stopped, Spent, Refused}
-use Rattle.interpreter.specs.Clauses.{StepAnswers, StepTaken, Given, RunAnswers, unfit_number}
+use Rattle.interpreter.specs.Clauses.{StepAnswers, StepTaken, Given, RunAnswers}
 use Rattle.interpreter.specs.Laws.{tabled}
 
 -- the buffers that a step leaves may be given to the next
@@ -72,29 +73,30 @@ module _ (table input : List ℕ) (b : Buffers) {number : ℕ} {answer : List �
   begun = ap (λ (s : StepCalled). added steps notes (run_behind s (run_call current table input k s.left))) called
 
   -- it was stopped
-  pub run_stopped : stops_step number ≡ true
+  pub run_stopped : (s : Stop) → number ≡ stop_number s
       → RunAnswers (added steps notes (run_call current table input (suc k) b))
-      (record { outcome = Stopped; number = number; steps = steps + 1; notes = notes + get_or answer 3 0 }) left
+      (record { outcome = Stopped s; steps = steps + 1; notes = notes + get_or answer 3 0 }) left
   unfolding run_behind run_with_step run_ended
-  run_stopped h =
+  run_stopped s e =
       let notes-only : notes + get_or answer 3 0 ≡ notes + (get_or answer 3 0 + 0) = omega arith in
-      rw (begun, h) (record { outcome_is = refl; number_is = refl; steps_are = refl; notes_are = notes-only; left_is = refl })
+      rw (begun, ap stops_step e ∙ stop_number_stops s)
+      (record { outcome_is = refl; number_is = sym e; steps_are = refl; notes_are = notes-only; left_is = refl })
 
   -- it was turned down
-  pub run_refused : stops_step number ≡ false → 0 < number
+  pub run_refused : (refusal : Refusal) → number ≡ refusal_number refusal
       → RunAnswers (added steps notes (run_call current table input (suc k) b))
-      (record { outcome = Refused; number = number; steps = steps; notes = notes }) left
+      (record { outcome = Refused refusal; steps = steps; notes = notes }) left
   unfolding run_behind run_ended
-  run_refused h some =
+  run_refused refusal e =
       let same-steps : steps ≡ steps + 0 = omega arith in
       let same-notes : notes ≡ notes + 0 = omega arith in
-      rw (begun, h, lt-ltb 0 number some)
-      (record { outcome_is = refl; number_is = refl; steps_are = same-steps; notes_are = same-notes; left_is = refl })
+      rw (begun, ap stops_step e ∙ refusal_unstops refusal, lt-ltb 0 number (omega (arith, refusal_some refusal)))
+      (record { outcome_is = refl; number_is = sym e; steps_are = same-steps; notes_are = same-notes; left_is = refl })
 
   -- it finished
   pub run_finished : number ≡ 0 → eqb (get_or left.state 0 0) 1 ≡ true
       → RunAnswers (added steps notes (run_call current table input (suc k) b))
-      (record { outcome = Finished; number = 0; steps = steps + 1; notes = notes + get_or answer 3 0 }) left
+      (record { outcome = Finished; steps = steps + 1; notes = notes + get_or answer 3 0 }) left
   unfolding run_behind run_with_step run_ended
   run_finished none ends =
       let notes-only : notes + get_or answer 3 0 ≡ notes + (get_or answer 3 0 + 0) = omega arith in
@@ -119,7 +121,7 @@ module _ (table input : List ℕ) (b : Buffers) {number : ℕ} {answer : List �
 
 -- all steps are made
 run_spent : (table input : List ℕ) (b : Buffers) (steps notes : ℕ)
-    → RunAnswers (added steps notes (run_call current table input 0 b)) (record { outcome = Spent; number = 0; steps = steps; notes = notes }) b
+    → RunAnswers (added steps notes (run_call current table input 0 b)) (record { outcome = Spent; steps = steps; notes = notes }) b
 unfolding run_call run_ended
 run_spent table input b steps notes =
     let same-steps : steps ≡ steps + 0 = omega arith in
@@ -197,18 +199,18 @@ module _ {table input : List ℕ} {first : Buffers} {count steps notes : ℕ} {b
   repeats_halted (halts.Stopped s) e =
       let none : notes + get_or answer 3 0 ≡ notes = omega (arith, a.notes_are ∙ ap step_notes e) in
       rw next-run
-      (subst (λ (n : ℕ). RunAnswers whole-run (record { outcome = Stopped; number = stop_number s; steps = steps + 1; notes = n }) left) none
-      (run_stopped table input b (numbered (ap step_number e)) steps notes (count - (steps + 1)) (stop_number_stops s)))
+      (subst (λ (n : ℕ). RunAnswers whole-run (record { outcome = Stopped s; steps = steps + 1; notes = n }) left) none
+      (run_stopped table input b (numbered (ap step_number e)) steps notes (count - (steps + 1)) s refl))
   repeats_halted (halts.Refused refusal) e =
       rw next-run
-      (run_refused table input b (numbered (ap step_number e)) steps notes (count - (steps + 1)) (refusal_unstops refusal) (refusal_some refusal))
+      (run_refused table input b (numbered (ap step_number e)) steps notes (count - (steps + 1)) refusal refl)
 
   pub repeats_finished : {more : ℕ} → given ≡ Ok more → eqb (get_or left.state 0 0) 1 ≡ true
       → RunAnswers (run_call current table input count first)
-      (record { outcome = Finished; number = 0; steps = steps + 1; notes = notes + more }) left
+      (record { outcome = Finished; steps = steps + 1; notes = notes + more }) left
   repeats_finished {more} e ends =
       rw next-run
-      (subst (λ (n : ℕ). RunAnswers whole-run (record { outcome = Finished; number = 0; steps = steps + 1; notes = notes + n }) left)
+      (subst (λ (n : ℕ). RunAnswers whole-run (record { outcome = Finished; steps = steps + 1; notes = notes + n }) left)
       (a.notes_are ∙ ap step_notes e)
       (run_finished table input b a.answers steps notes (count - (steps + 1)) (ap step_number e) ends))
 
@@ -228,7 +230,7 @@ module _ {table input : List ℕ} {first : Buffers} {count steps notes : ℕ} {b
 
 pub repeats_spent : {table input : List ℕ} {first : Buffers} {count steps notes : ℕ} {b : Buffers}
     → Repeats table input first count steps notes b → count ≤ steps
-    → RunAnswers (run_call current table input count first) (record { outcome = Spent; number = 0; steps = steps; notes = notes }) b
+    → RunAnswers (run_call current table input count first) (record { outcome = Spent; steps = steps; notes = notes }) b
 repeats_spent {table} {input} {first} {count} {steps} {notes} {b} r h =
     let none_left : count - steps ≡ 0 = omega arith in
     rw (r.run, none_left) (run_spent table input b steps notes)
@@ -236,23 +238,20 @@ repeats_spent {table} {input} {first} {count} {steps} {notes} {b} r h =
 -- so it has made as many steps as it was asked for
 pub repeats_all : {table input : List ℕ} {first : Buffers} {count steps notes : ℕ} {b : Buffers}
     → Repeats table input first count steps notes b → steps ≡ count
-    → RunAnswers (run_call current table input count first) (record { outcome = Spent; number = 0; steps = count; notes = notes }) b
+    → RunAnswers (run_call current table input count first) (record { outcome = Spent; steps = count; notes = notes }) b
 repeats_all {table} {input} {first} {count} {notes = notes} {b = b} r all =
-    subst (λ (n : ℕ). RunAnswers (run_call current table input count first) (record { outcome = Spent; number = 0; steps = n; notes = notes }) b) all
+    subst (λ (n : ℕ). RunAnswers (run_call current table input count first) (record { outcome = Spent; steps = n; notes = notes }) b) all
     (repeats_spent r (omega (arith, all)))
 
 -- the first step is refused before it is made
-pub unfit_run : (table input : List ℕ) (b : Buffers) (n : ℕ)
-    → n ≡ unfit_number table b.store b.state (length input) (length b.output) → 0 < n
-    → StepAnswers (step_call current table input b) n (replicate 24 0) b → (count : ℕ) → 0 < count
-    → RunAnswers (run_call current table input count b) (record { outcome = Refused; number = n; steps = 0; notes = 0 }) b
-unfit_run table input b n e h a count some =
+pub unfit_run : (table input : List ℕ) (b : Buffers) (refusal : Refusal)
+    → StepAnswers (step_call current table input b) (refusal_number refusal) (replicate 24 0) b → (count : ℕ) → 0 < count
+    → RunAnswers (run_call current table input count b) (record { outcome = Refused refusal; steps = 0; notes = 0 }) b
+unfit_run table input b refusal a count some =
     let one_less : count ≡ suc (count - 1) = omega arith in
-    let unstopped : stops_step n ≡ false = rw e (refusal_unstopped (ltb (length table) table_size) (keeps_rules current table) (store_keeps b.store)
-    (not (state_keeps current (length (program_in table).steps) (length input) (length b.output) b.state)) 0 (zero_unstopped refl)) in
-    rw (one_less, added_none (run_call current table input (suc (count - 1)) b)) (run_refused table input b a 0 0 (count - 1) unstopped h)
+    rw (one_less, added_none (run_call current table input (suc (count - 1)) b)) (run_refused table input b a 0 0 (count - 1) refusal refl)
 
 -- no step is asked for
 pub steps_none : (table input : List ℕ) (b : Buffers) (count : ℕ) → count ≡ 0
-    → RunAnswers (run_call current table input count b) (record { outcome = Spent; number = 0; steps = 0; notes = 0 }) b
+    → RunAnswers (run_call current table input count b) (record { outcome = Spent; steps = 0; notes = 0 }) b
 steps_none table input b count e = rw (e, added_none (run_call current table input 0 b)) (run_spent table input b 0 0)

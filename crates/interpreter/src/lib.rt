@@ -9,17 +9,18 @@ ghost use Rattle.std.specs.Prelude.{List, ◌≡◌, ℕ, length, replicate};
 ghost use Rattle.base.specs.Current.{current};
 ghost use Rattle.calls.specs.Calls.{step_call, buffers};
 ghost use Rattle.calls.specs.Promises.{StepPromise, step_back};
+ghost use Rattle.encoding.specs.BufferLaws.{StoreGood};
 ghost use Rattle.encoding.specs.Table.{Row};
 ghost use Rattle.encoding.specs.TableReading.{statement_of_row};
 ghost use Rattle.machine.specs.Step.{lacks_return};
 ghost use Rattle.scanning.specs.Call.{no_answer};
-ghost use Rattle.scan_statement.specs.Scans.{ScanLent};
 ghost use Rattle.interpreter.specs.Clauses.{Given, Allowed, next_statement, WorksOn, Concludes, StepTaken, unfit_number};
 ghost use Rattle.interpreter.specs.Endings.{refusal_number, checked_number};
 
 use base::{LONGEST, RETURNS};
 use decoder::Statement;
 use encoding::{STATE_SIZE, TABLE_SIZE, step_kinds};
+use scan_statement::VALUES_SIZE;
 use scanning::{ANSWER_SIZE, NOTES_AT};
 use values::Stop;
 
@@ -50,6 +51,7 @@ pub enum Halt {
 }
 
 // whether a step of this kind lacks the return that it goes to, or room for the one that it holds
+// kept: by the kind's number, read before the statement: handed on from here, the statement would be a ninth parameter of execute_statement
 fn lacks_return(kind: u8, held: usize) -> bool
     ensures { (t rs : List ℕ) (row : Row) → row.kind ≡ kind → length rs ≡ held → result ≡ lacks_return (statement_of_row t row) rs }
 {
@@ -63,38 +65,32 @@ fn lacks_return(kind: u8, held: usize) -> bool
 // carries out the statement of the next step; a string's value is kept in front of values on the way, and the answer, which must say that
 // nothing was scanned, gets what a scan found
 // kept: one match with an arm for each kind: the arms lend different buffers, all of which each closure of a table would have to take
-// kept: the buffers come one by one, here, in run and in scans, as C lends them; as fields of a struct each `&mut` takes a clause more in every contract
-// kept: values and kept with ScanLent: as in scan_statement, where a struct of the two was tried
+// kept: the buffers come one by one, here, in run and in scans: C lends all but values and kept so, and a struct of `&mut` takes for each field
+// a clause more in every contract, that it still holds that one
 fn execute_statement(
     table: &[u8],
     store: &mut [u8],
     state: &mut [u64; STATE_SIZE],
     input: &[u8],
     output: &mut [u8],
-    values: &mut [u8],
+    values: &mut [u8; VALUES_SIZE],
     kept: &mut [u8],
     answer: &mut [u32; ANSWER_SIZE],
 ) -> Result<u32, Stop>
     requires allowed { Allowed table.now input.now (buffers store.old state.old output.old) }
     requires answer_value { answer.old ≡ no_answer }
-    requires scan_lent { ScanLent values.old kept.old }
+    requires kept_good { StoreGood kept.old }
     ensures works_on { WorksOn result input.now (buffers store.old state.old output.old)
         (buffers store.new state.new output.new) (next_statement table.now state.old)
         answer.new }
-    ensures scan_lent_2 { ScanLent values.new kept.new }
+    ensures kept_stays { StoreGood kept.new }
 {
-    let k = state::next_step(state);
-    let next = k + 1;
-    let x = decoder::statement_at(table, k);
-    match x {
-        Statement::SetNumber(place, s) => execution::set_number(
-            table, store, state, next, place, s,
-        ),
+    match decoder::statement_at(table, state::next_step(state)) {
+        Statement::SetNumber(place, s) => execution::set_number(table, store, state, place, s),
         Statement::SetString(p, s) => execution::set_string(
             table,
             store,
             state,
-            next,
             p,
             s,
             &mut values[..LONGEST],
@@ -111,11 +107,10 @@ fn execute_statement(
             store,
             state,
             output,
-            next,
             s,
             &mut values[..LONGEST],
         ),
-        Statement::Execute(to) => execution::execute(state, next, to),
+        Statement::Execute(to) => execution::execute(state, to),
         Statement::Return => execution::return_to(state),
     }
 }
@@ -148,16 +143,16 @@ pub fn step_on(
     state: &mut [u64; STATE_SIZE],
     input: &[u8],
     output: &mut [u8],
-    values: &mut [u8],
+    values: &mut [u8; VALUES_SIZE],
     kept: &mut [u8],
     answer: &mut [u32; ANSWER_SIZE],
 ) -> Result<u32, Halt>
     requires given { Given table.now input.now (buffers store.old state.old output.old) }
-    requires scan_lent { ScanLent values.old kept.old }
+    requires kept_good { StoreGood kept.old }
     ensures step_taken { StepTaken
         (step_call current table.now input.now (buffers store.old state.old output.old))
         result answer.new (buffers store.new state.new output.new) }
-    ensures scan_lent_2 { ScanLent values.new kept.new }
+    ensures kept_stays { StoreGood kept.new }
 {
     *answer = [0u32; ANSWER_SIZE];
     if lacks_return(
@@ -220,7 +215,7 @@ pub fn strigol_step(
         (step_back result answer.new (buffers store.new state.new output.new)) }
 {
     match check_fit(table, store, state, input.len(), output.len()) {
-        Ok(()) => run::repeat(table, store, state, input, output, 1, answer).number,
+        Ok(()) => run::repeat(table, store, state, input, output, 1, answer).number(),
         Err(refusal) => turn_down(refusal, answer),
     }
 }

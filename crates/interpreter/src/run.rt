@@ -4,20 +4,21 @@ ghost use Rattle.base.specs.Current.{current};
 ghost use Rattle.calls.specs.Calls.{run_call, step_call, outcome_number, buffers};
 ghost use Rattle.calls.specs.Promises.{RunPromise, run_back};
 ghost use Rattle.interpreter.specs.Clauses.{Given, StepAnswers, RunAnswers};
-ghost use Rattle.interpreter.specs.Endings.{halted, outcome_meaning, ran_numbers, ran_back};
+ghost use Rattle.interpreter.specs.Endings.{halted, outcome_meaning, ended_number, ran_numbers, ran_back};
 
-use crate::{Halt, check_fit, step_on};
+use crate::{Halt, Refusal, check_fit, step_on};
 use encoding::{STATE_SIZE, STORE_SIZE};
 use scan_statement::VALUES_SIZE;
 use scanning::ANSWER_SIZE;
+use values::Stop;
 
-// how a run ended
+// how a run ended: by itself, stopped, its steps spent, or turned down
 #[derive(Clone, Copy, PartialEq, Eq)]
 pub enum Outcome {
-    Finished = 0,
-    Stopped = 1,
-    Spent = 2,
-    Refused = 3,
+    Finished,
+    Stopped(Stop),
+    Spent,
+    Refused(Refusal),
 }
 
 impl Outcome {
@@ -26,29 +27,32 @@ impl Outcome {
     fn number(self) -> u64
         ensures { result ≡ outcome_number (outcome_meaning self) }
     {
-        self as u64
+        match self {
+            Outcome::Finished => 0,
+            Outcome::Stopped(_) => 1,
+            Outcome::Spent => 2,
+            Outcome::Refused(_) => 3,
+        }
     }
 }
 
-// a run that was made: how it ended, by which number or 0, the steps done and their notes
-// kept: number stands beside the outcome: C and the closing line have both, and a refused deck's is the deck call's, which Halt doesn't know
+// a run that was made: how it ended, the steps done and their notes
 #[derive(Clone, Copy)]
 pub struct Ran {
     pub outcome: Outcome,
-    pub number: u32,
     pub steps: u32,
     pub notes: u64,
 }
 
 impl Ran {
-    fn new(outcome: Outcome, number: u32, steps: u32, notes: u64) -> Ran
-        ensures { result ≡ record { outcome = outcome; number = number; steps = steps; notes = notes } }
+    // the number of what stopped it or turned it down, 0 where nothing did
+    pub fn number(self) -> u32
+        ensures { result ≡ ended_number self.outcome }
     {
-        Ran {
-            outcome,
-            number,
-            steps,
-            notes,
+        match self.outcome {
+            Outcome::Finished | Outcome::Spent => 0,
+            Outcome::Stopped(stop) => stop.number(),
+            Outcome::Refused(refusal) => refusal.number(),
         }
     }
 
@@ -57,9 +61,14 @@ impl Ran {
         requires { done + 1 < 2 ^ 32 }
         ensures { result ≡ halted halt done notes }
     {
-        match halt {
-            Halt::Stopped(stop) => Ran::new(Outcome::Stopped, stop.number(), done + 1, notes),
-            Halt::Refused(refusal) => Ran::new(Outcome::Refused, refusal.number(), done, notes),
+        let (outcome, steps) = match halt {
+            Halt::Stopped(stop) => (Outcome::Stopped(stop), done + 1),
+            Halt::Refused(refusal) => (Outcome::Refused(refusal), done),
+        };
+        Ran {
+            outcome,
+            steps,
+            notes,
         }
     }
 
@@ -69,7 +78,7 @@ impl Ran {
     {
         [
             self.outcome.number(),
-            self.number as u64,
+            self.number() as u64,
             self.steps as u64,
             self.notes,
         ]
@@ -92,7 +101,7 @@ pub fn repeat(
         result (buffers store.new state.new output.new) }
     ensures step_answers { count ≡ 1 → StepAnswers
         (step_call current table.now input.now (buffers store.old state.old output.old))
-        result.number answer.new (buffers store.new state.new output.new) }
+        (ended_number result.outcome) answer.new (buffers store.new state.new output.new) }
 {
     let mut values = [0u8; VALUES_SIZE];
     let mut kept = [0u8; STORE_SIZE];
@@ -113,10 +122,18 @@ pub fn repeat(
             Err(halt) => return Ran::halted(halt, done, notes),
         }
         if state::is_finished(state) {
-            return Ran::new(Outcome::Finished, 0, done + 1, notes);
+            return Ran {
+                outcome: Outcome::Finished,
+                steps: done + 1,
+                notes,
+            };
         }
     }
-    Ran::new(Outcome::Spent, 0, count, notes)
+    Ran {
+        outcome: Outcome::Spent,
+        steps: count,
+        notes,
+    }
 }
 
 // So many steps at most, on any buffers.
@@ -132,14 +149,22 @@ pub fn run(
         (ran_back result (buffers store.new state.new output.new)) }
 {
     if count == 0 {
-        return Ran::new(Outcome::Spent, 0, 0, 0);
+        return Ran {
+            outcome: Outcome::Spent,
+            steps: 0,
+            notes: 0,
+        };
     }
     match check_fit(table, store, state, input.len(), output.len()) {
         Ok(()) => {
             let mut answer = [0u32; ANSWER_SIZE];
             repeat(table, store, state, input, output, count, &mut answer)
         }
-        Err(refusal) => Ran::new(Outcome::Refused, refusal.number(), 0, 0),
+        Err(refusal) => Ran {
+            outcome: Outcome::Refused(refusal),
+            steps: 0,
+            notes: 0,
+        },
     }
 }
 
@@ -158,5 +183,5 @@ pub fn strigol_run(
 {
     let ran = run(table, store, state, input, output, count);
     *res = ran.numbers();
-    ran.number
+    ran.number()
 }

@@ -1,7 +1,7 @@
 -- A run of digits has no blank, so NUMBER would read it alike. Assumes nothing.
 use mathlib.Core.Bool.{true, false}
 use mathlib.Core.List.{List, [], ◌∷◌}
-use mathlib.Core.Path.{◌≡◌, refl, sym, ap, subst, ◌∙◌}
+use mathlib.Core.Path.{◌≡◌, refl, sym, ap, ◌∙◌}
 use Prim.Native.Nat.{ℕ, suc, ◌*◌, ◌+◌, ◌-◌}
 use native.Mathlib.Omega.{arith}
 use lib.Dec.{leb}
@@ -9,7 +9,6 @@ use lib.ListN.{take, drop}
 use borrow.Author.Tests.{leb-true, ne_eqb}
 use Rattle.base.specs.Choice.{both_true, test_cases}
 use Rattle.cards.specs.Bytes.{is_digit, between}
-use Rattle.numbers.specs.Numbers.{Capped}
 use Rattle.syntax.specs.Lexemes.{run_length, decimal_from}
 use Rattle.values.specs.Conversion.{digit_of, decimal}
 
@@ -33,10 +32,9 @@ decimal-digits v (b ∷ bs) =
     (λ _. refl)
 
 -- what NUMBER reads of the n digits at a place is what they write
-pub digits_capped : (text : List ℕ) (at v n : ℕ) → n ≡ run_length is_digit (drop at text) → Capped v (decimal 0 (take (at + n - at) (drop at text)))
-    → Capped v (decimal_from 0 (take n (drop at text)))
-digits_capped text at v n digits =
+pub digits_read : (text : List ℕ) (at n : ℕ) → n ≡ run_length is_digit (drop at text)
+    → decimal 0 (take (at + n - at) (drop at text)) ≡ decimal_from 0 (take n (drop at text))
+digits_read text at n digits =
     let bs = drop at text in
     let size : at + n - at ≡ run_length is_digit bs = omega arith in
-    subst (Capped v)
-    (ap (λ (k : ℕ). decimal 0 (take k bs)) size ∙ decimal-digits 0 bs ∙ ap (λ (k : ℕ). decimal_from 0 (take k bs)) (sym digits))
+    ap (λ (k : ℕ). decimal 0 (take k bs)) size ∙ decimal-digits 0 bs ∙ ap (λ (k : ℕ). decimal_from 0 (take k bs)) (sym digits)

@@ -17,7 +17,8 @@ use Rattle.base.specs.Current.{current, limit}
 use Rattle.base.specs.Lists.{begins}
 use Rattle.base.specs.Text.{bytes}
 use Rattle.cards.specs.Bytes.{between, is_letter, is_digit, is_name_byte}
-use Rattle.numbers.specs.Numbers.{Capped}
+use Rattle.numbers.specs.Laws.{small_is, not_small}
+use Rattle.numbers.specs.Numbers.{if_small}
 use Rattle.syntax.specs.Keywords.{StatementKind, Leading, REPLACEMENT, UNKNOWN, longest, keywords, leading, bound_length, is_replacement}
 use Rattle.syntax.specs.Parsing.{broken, succeed}
 use Rattle.syntax.specs.Lexemes.{run_length, name_length, decimal_from, unsigned}
@@ -56,14 +57,16 @@ module _ (bs : List ℕ) where
   unfolding unsigned
   unsigned_none n e z = rw (unsigned, ← e, z)
 
-  module _ (n v : ℕ) (e : n ≡ run_length is_digit bs) (some : 1 ≤ n) (c : Capped v (decimal_from 0 (take n bs))) where
-    pub unsigned_above : limit < v → broken ≡ unsigned current bs
+  module _ (n : ℕ) (e : n ≡ run_length is_digit bs) (some : 1 ≤ n) where
+    pub unsigned_above : if_small (decimal_from 0 (take n bs)) ≡ None → broken ≡ unsigned current bs
     unfolding unsigned current
-    unsigned_above h = rw (unsigned, ← e, le-leb 1 n some, lt-leb (decimal_from 0 (take n bs)) limit (c.above h))
+    unsigned_above h = rw (unsigned, ← e, le-leb 1 n some, lt-leb (decimal_from 0 (take n bs)) limit (not_small _ h))
 
-    pub unsigned_is : v ≤ limit → succeed v (drop n bs) ≡ unsigned current bs
+    pub unsigned_is : {v : ℕ} → if_small (decimal_from 0 (take n bs)) ≡ Some v → succeed v (drop n bs) ≡ unsigned current bs
     unfolding unsigned current
-    unsigned_is h = rw (unsigned, ← e, le-leb 1 n some, ← c.same h, le-leb v limit h) (rw (← e, ← c.same h))
+    unsigned_is {v} h =
+        let small = small_is h in
+        rw (unsigned, ← e, le-leb 1 n some, ← small.0, le-leb v limit small.1) (rw (← e, ← small.0))
 
   -- a replacement, by the tests in their order
   pub no_name : 0 ≡ name_length bs → false ≡ is_replacement bs

@@ -4,7 +4,7 @@ ghost use Rattle.lexer.specs.Constants.{ConstantRead, ReadsSigned};
 
 use crate::names::digit_count;
 use crate::{sign_at, stands_at};
-use numbers::{Int, LIMIT};
+use numbers::Int;
 
 // a constant with the place behind it: of digits alone, or with its sign
 #[derive(Clone, Copy)]
@@ -22,11 +22,8 @@ pub fn unsigned(text: &[u8], at: usize) -> Option<Constant<u64>>
         return None;
     }
     let next = at + n;
-    let value = numbers::decimal_of(&text[at..next]);
-    if value <= LIMIT {
-        return Some(Constant { value, next });
-    }
-    None
+    let value = numbers::decimal_of(&text[at..next])?;
+    Some(Constant { value, next })
 }
 
 // the constant at a place, behind its sign if it has one

@@ -7,7 +7,8 @@ ghost use Rattle.lexer.specs.Kinds.{kind_of, leads};
 use crate::names::{bound_length, name_length};
 use crate::stands_at;
 
-#[derive(Clone, Copy)]
+// the kind of a statement, by its beginning alone
+#[derive(Clone, Copy, PartialEq, Eq)]
 pub enum Kind {
     Replacement,
     Number,
@@ -25,11 +26,11 @@ pub enum Kind {
     Execute,
     EndRoutine,
     Return,
+    // kept: a kind, as document 01's UNKNOWN is one, and no None: 4 is judged by it too, before 5
     Unknown,
 }
 
 // a kind with how many bytes its keyword has
-// kept: Unknown is a kind, and no None: 4 is judged by the kind of a statement that begins with no keyword, before 5
 #[derive(Clone, Copy)]
 pub struct Keyword {
     pub kind: Kind,
@@ -37,7 +38,7 @@ pub struct Keyword {
 }
 
 // the keywords with their kinds
-const KEYWORDS: [(&[u8], Kind); 15] = [
+static KEYWORDS: [(&[u8], Kind); 15] = [
     (b"NUMBER", Kind::Number),
     (b"PROGRAM", Kind::Program),
     (b"END", Kind::End),

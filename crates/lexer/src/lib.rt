@@ -14,7 +14,7 @@ ghost use Rattle.syntax.specs.Lexemes.{is_sign};
 use card_reader::line::behind;
 use classes::is_digit;
 
-// kept: a text and a place in it come apart: the place is the readers' cursor's, and the text is the same for all of them
+// kept: a text and a place in it come apart: what readers answer are places of the same text, and the cursor has its place beside the counts
 
 // the byte at a place, 0 behind the end
 // kept: 0 behind the end and no Option, as document 01's reading (get_or) has it; each caller asks for a class that 0 isn't of

@@ -1,6 +1,6 @@
 -- Laws of the lists that the symbol table holds, and of 11 by keys.
 -- Assumes nothing.
-use Rattle.std.specs.Prelude.{Bool, true, false, cond, not, ◌&&◌, ◌||◌, ◌==◌, List, [], ◌∷◌, ◌++◌, map, ◌≡◌, refl, ℕ, zero, suc, ◌+◌, length, get_or}
+use Rattle.std.specs.Prelude.{Bool, true, false, cond, not, ◌&&◌, ◌||◌, ◌==◌, List, [], ◌∷◌, ◌++◌, map, ◌≡◌, refl, ℕ, zero, suc, ◌+◌, get_or}
 use Rattle.std.specs.List.{list_any}
 use Rattle.std.proofs.Common.{sym, ap, ap₂, ◌∙◌, arith}
 use Rattle.std.proofs.Math.Bool.{or_comm, or-false}
@@ -13,7 +13,7 @@ use Rattle.validation.specs.Environment as Environment
 use Rattle.validation.specs.Environment.{Use}
 use Rattle.validation.specs.Names.{any_append}
 use Rattle.symbols.specs.Entries.{name_of, purpose_meaning}
-use Rattle.symbols.specs.Environment.{label_meaning, labels_in, routine_meaning, latest_first, routines_in}
+use Rattle.symbols.specs.Environment.{label_meaning, labels_in, routine_meaning, latest_first, routines_in, has_routine}
 use Rattle.symbols.specs.EnvironmentLaws.{name-same}
 use Rattle.symbols.specs.Holding.{uses_from, uses_in}
 use Rattle.symbols.specs.declared.known.Known.{Known}
@@ -21,12 +21,13 @@ use Rattle.symbols.specs.declared.known.Routine.{Routine}
 use Rattle.symbols.specs.declared.known.Symbols.{Symbols}
 use Rattle.symbols.specs.declared.tags.Purpose.{Purpose}
 use Rattle.symbols.specs.declared.tags.Purpose.TheVariants.{Program, Label, Routine as Executed, Number, String}
-use Rattle.link_checks.specs.Below.{below, below-same, below-first, below-from, below-start, below_either}
+use Rattle.link_checks.proofs.Slices.{any_below}
+use Rattle.link_checks.specs.Below.{below, below-same, below-from, below-start, below_either}
 use Rattle.link_checks.specs.Held.{held_in}
-use Rattle.link_checks.specs.Lost.{has_label, has_routine, is_lost}
+use Rattle.link_checks.specs.Lost.{has_label, is_lost}
 use Rattle.link_checks.specs.Pairs.{no_routine, routine_count, routine_key}
 
--- some element passes a test: of a list made of another, of the latest first, and place by place
+-- some element passes a test: of a list made of another, and of the latest first
 any-map : {A B : Type 0} (g : B → Bool) (h : A → B) (xs : List A) → any g (map h xs) ≡ list_any (λ x. g (h x)) xs
 unfolding any
 any-map g h [] = refl
@@ -39,12 +40,6 @@ any_latest g (r ∷ rs) =
     any_append g (latest_first rs) (routine_meaning r ∷ [])
     ∙ ap₂ {C = Bool} ◌||◌ (any_latest g rs) (or-false (g (routine_meaning r)))
     ∙ or_comm (list_any (λ q. g (routine_meaning q)) rs) (g (routine_meaning r))
-
-any_below : {A : Type 0} (f : A → Bool) (d : A) (xs : List A) → list_any f xs ≡ below (λ i. f (get_or xs i d)) (length xs)
-unfolding below
-any_below f d [] = refl
-any_below f d (x ∷ xs) =
-    ap (λ t. f x || t) (any_below f d xs) ∙ below-first (λ i. f (get_or (x ∷ xs) i d)) (length xs)
 
 pub any-routines : (g : List ℕ → Bool) (known : Known)
     → any (λ (r : Environment.Routine). g r.name) (routines_in known) ≡ below (λ i. g (name_of (routine_key known i))) (routine_count known)

@@ -1,11 +1,9 @@
 -- Laws of the routines reached by going on: by membership alone, by places, and so 12.
 -- Assumes nothing.
-use mathlib.Core.Bool.{Bool, true, false, not, ◌&&◌, ◌||◌, and-eq-true_iff}
-use mathlib.Core.List.{List}
-use mathlib.Core.Logic.{inl, inr}
-use mathlib.Core.Path.{◌≡◌, refl, sym, ap, ap₂, ◌∙◌}
-use Prim.Native.Nat.{ℕ, zero, suc, ◌<◌}
-use lib.ListN.{length, get_or}
+use Rattle.std.specs.Prelude.{Bool, true, false, not, ◌&&◌, ◌||◌, List, ◌≡◌, refl, ℕ, zero, suc, ◌≤◌, ◌<◌, eqb, length, get_or}
+use Rattle.std.proofs.Common.{inl, inr, sym, ap, ap₂, ◌∙◌, arith}
+use Rattle.std.proofs.Math.Bool.{and-eq-true_iff, and-false}
+use Rattle.std.proofs.lemmas.Bool.{lt-ltb, le-ltb}
 use Rattle.base.specs.Choice.{either_true, neither_true, same_truth}
 use Rattle.base.specs.ListLaws.{same_true}
 use Rattle.base.specs.Lists.{any, same}
@@ -17,14 +15,16 @@ use Rattle.syntax.specs.Parsing.{for_label, for_routine, same_purpose}
 use Rattle.symbols.specs.Entries.{name_of, purpose_meaning}
 use Rattle.symbols.specs.Holding.{uses_in}
 use Rattle.symbols.specs.Environment.{labels_in, routines_in}
+use Rattle.symbols.specs.declared.known.Known.{Known}
 use Rattle.symbols.specs.declared.known.Symbols.{Symbols}
 use Rattle.symbols.specs.declared.tags.Purpose.TheVariants.{Program}
 use Rattle.symbols.specs.EnvironmentLaws.{name-same, length-routines}
 use Rattle.link_checks.proofs.Losses.{any-routines, any_uses}
 use Rattle.link_checks.proofs.Turns.{gone_same}
-use Rattle.link_checks.specs.Below.{below, below-same, below_find, below-found}
+use Rattle.link_checks.specs.Below.{below, below-same, below_find, below-found, below_few}
 use Rattle.link_checks.specs.Held.{held_in}
-use Rattle.link_checks.specs.Pairs.{pair_in, routine_count, routine_key, NotedAll, by_use, use_pairs}
+use Rattle.link_checks.specs.Pairs.{pair_in, routine_count, routine_key, has_key, by_use, use_pairs, executed_in}
+use Rattle.link_checks.specs.declared.executed.TheConstants.{PLACES}
 use Rattle.link_checks.specs.Rounds.{go_on, gone_on}
 
 -- routines by their places
@@ -88,8 +88,13 @@ module _ (count : ℕ) (name : ℕ → List ℕ) where
         ∙ ap (λ (m : ℕ → Bool). gone_on n between count m j) (λ t i. turn i t)
 
 -- 12, place by place
-abbrev pub back_at : (pairs : List Bool) → (count i : ℕ) → Bool
-back_at pairs count i = gone_on count (pair_in pairs) count (pair_in pairs i) i
+abbrev pub back_at : (pairs : List (List Bool)) → (rounds i : ℕ) → Bool
+back_at pairs rounds i = gone_on rounds (pair_in pairs) PLACES (pair_in pairs i) i
+
+-- the key of a place where a routine stands
+key_at : (known : Known) (key i : ℕ) → i < routine_count known → has_key known key i ≡ eqb (routine_key known i) key
+unfolding has_key
+key_at known key i h = ap (λ t. t && eqb (routine_key known i) key) (lt-ltb i (routine_count known) h)
 
 module _ (s : Symbols) where
   abbrev name : ℕ → List ℕ
@@ -98,15 +103,27 @@ module _ (s : Symbols) where
   abbrev used : List Use
   used = uses_in for_routine s.uses
 
-  executes-pairs : (i j : ℕ) → executes used (name i) (name j) ≡ below (use_pairs s.known s.uses i j) s.uses.count
-  unfolding use_pairs by_use uses_in
-  executes-pairs i j =
+  executes-pairs : (i j : ℕ) → i < routine_count s.known → j < routine_count s.known → executes used (name i) (name j) ≡ executed_in s i j
+  unfolding executed_in use_pairs by_use uses_in
+  executes-pairs i j hi hj =
       let us = s.uses in
       any_uses (λ u. same (name i) u.scope && same (name j) u.name) for_routine us.keys us.scopes us.purposes us.count
       ∙ below-same _ _ us.count
       (λ u _.
       ap₂ {C = Bool} (λ x y. same_purpose for_routine (purpose_meaning (get_or us.purposes u Program)) && (x && y))
-      (name-same (routine_key s.known i) (get_or us.scopes u 0)) (name-same (routine_key s.known j) (get_or us.keys u 0)))
+      (name-same (routine_key s.known i) (get_or us.scopes u 0) ∙ sym (key_at s.known (get_or us.scopes u 0) i hi))
+      (name-same (routine_key s.known j) (get_or us.keys u 0) ∙ sym (key_at s.known (get_or us.keys u 0) j hj)))
+
+  -- a place where none stands executes none
+  executes-none : (i j : ℕ) → routine_count s.known ≤ i → executed_in s i j ≡ false
+  unfolding executed_in use_pairs by_use has_key below
+  executes-none i j h =
+      let us = s.uses in
+      let none : Bool → ℕ → Bool = λ t u. same_purpose for_routine (purpose_meaning (get_or us.purposes u Program))
+      && ((t && eqb (routine_key s.known i) (get_or us.scopes u 0)) && has_key s.known (get_or us.keys u 0) j) in
+      ap (λ t. below (none t) us.count) (le-ltb i (routine_count s.known) h)
+      ∙ ap (λ f. below f us.count) (λ t u. and-false (same_purpose for_routine (purpose_meaning (get_or us.purposes u Program))) t)
+      ∙ sym (below_few (λ _. false) 0 us.count (omega arith) (λ _ _ _. refl))
 
   all_placed : is11 (held_in s) ≡ false → AllPlaced (routine_count s.known) name used
   unfolding is11 held_in
@@ -117,20 +134,21 @@ module _ (s : Symbols) where
       let parts = neither_true crossing undeclared e in
       ap (λ (f : List ℕ → Bool). any (λ (u : Use). not (f u.name)) used) (λ t x. sym (any-routines (same x) s.known) t) ∙ parts.1
 
-  pub pairs_12 : (pairs : List Bool) → NotedAll s pairs → is11 (held_in s) ≡ false →
-      below (back_at pairs (routine_count s.known)) (routine_count s.known) ≡ is12 (held_in s)
+  pub pairs_12 : (pairs : List (List Bool)) → ((i j : ℕ) → pair_in pairs i j ≡ executed_in s i j) → routine_count s.known ≤ PLACES →
+      is11 (held_in s) ≡ false → below (back_at pairs (routine_count s.known)) (routine_count s.known) ≡ is12 (held_in s)
   unfolding is12 held_in routines_in
-  pairs_12 pairs noted none =
+  pairs_12 pairs noted few none =
       let count = routine_count s.known in
       let all = all_placed none in
       let alike : (i j : ℕ) → i < count → j < count → executes used (name i) (name j) ≡ pair_in pairs i j =
-      λ i j hi hj. executes-pairs i j ∙ sym (noted.pair i j hi hj) in
+      λ i j hi hj. executes-pairs i j hi hj ∙ sym (noted i j) in
       sym
       (any-routines (λ x. is_one_of (reached (length (routines_in s.known)) used (executed_by used x)) x) s.known
       ∙ below-same _ _ count
       (λ i h.
       ap (λ n. is_one_of (reached n used (executed_by used (name i))) (name i)) (length-routines s.known.routines.items)
       ∙ reached_placed count name used all count (executed_by used (name i)) (first_placed count name used all (name i)) i
-      ∙ gone_same (λ a b. executes used (name a) (name b)) (pair_in pairs) count alike count
+      ∙ gone_same (λ a b. executes used (name a) (name b)) (pair_in pairs) count PLACES few alike
+      (λ a b past _. noted a b ∙ executes-none a b past) count
       (λ j. is_one_of (executed_by used (name i)) (name j)) (pair_in pairs i)
       (λ j hj. executed_by_lem used (name i) (name j) ∙ alike i j h hj) i h))

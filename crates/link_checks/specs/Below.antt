@@ -1,22 +1,13 @@
 -- Some number below n passes a test; with its laws. Assumes nothing.
-use Rattle.std.specs.Prelude.{Bool, true, false, ◌&&◌, ◌||◌, ◌≡◌, refl, ℕ, zero, suc, ◌+◌, ◌<◌, eqb}
-use Rattle.std.proofs.lemmas.Bool.{false≢true, eqb-false}
-use Rattle.std.proofs.Math.Bool.{or_assoc, or_comm, and-eq-true_iff}
-use Rattle.std.proofs.Common.{inl, inr, sym, ap, ap₂, ◌∙◌, add-zero, zero-add, add-one, arith, eq-eqb, eqb-true}
+use Rattle.std.specs.Prelude.{Bool, true, false, ◌||◌, ◌≡◌, refl, ℕ, zero, suc, ◌+◌, ◌≤◌, ◌<◌, eqb, ltb}
+use Rattle.std.proofs.lemmas.Bool.{false≢true, eqb-false, ltb-true, ltb-false}
+use Rattle.std.proofs.Math.Bool.{or_assoc, or_comm}
+use Rattle.std.proofs.Common.{inl, inr, sym, ap, ap₂, ◌∙◌, add-zero, zero-add, arith, eqb-true}
 use Rattle.base.specs.Choice.{test_cases, either_true, true_behind, same_truth, or_pairs}
 
 unfoldable pub below : (ℕ → Bool) → ℕ → Bool
 below f zero = false
 below f (suc n) = below f n || f n
-
--- number by number: none yet, one more
-pub below_none : (f : ℕ → Bool) → false ≡ below f 0
-unfolding below
-below_none f = refl
-
-pub below_more : (f : ℕ → Bool) (n : ℕ) (found test : Bool) → found ≡ below f n → test ≡ f n → (found || test) ≡ below f (n + 1)
-unfolding below
-below_more f n found test e t = ap₂ {C = Bool} ◌||◌ e t ∙ ap (below f) (sym (add-one n))
 
 -- tests that agree below n
 pub below-same : (f g : ℕ → Bool) (n : ℕ) → ((i : ℕ) → i < n → f i ≡ g i) → below f n ≡ below g n
@@ -69,12 +60,12 @@ below-found f (suc n) i h e =
     (λ t. true_behind (below f n) (f n) (ap f (sym (eqb-true i n t)) ∙ e))
     (λ t. let other = eqb-false i n t in ap (λ b. b || f n) (below-found f n i (omega arith) e))
 
--- the test of one number
-pub below_at : (f : ℕ → Bool) (n b : ℕ) → b < n → below (λ t. eqb b t && f t) n ≡ f b
-below_at f n b h =
-    same_truth (below (λ t. eqb b t && f t) n) (f b)
+-- numbers of which none passes make no difference
+pub below_few : (f : ℕ → Bool) (few n : ℕ) → few ≤ n → ((i : ℕ) → few ≤ i → i < n → f i ≡ false) → below f few ≡ below f n
+below_few f few n le none =
+    same_truth (below f few) (below f n)
+    (λ e. let p = below_find f few e in let u = p.under in below-found f n p.at (omega arith) p.passes)
     (λ e.
-    let p = below_find (λ t. eqb b t && f t) n e in
-    let both = (and-eq-true_iff (eqb b p.at) (f p.at)).0 p.passes in
-    ap f (eqb-true b p.at both.0) ∙ both.1)
-    (λ e. below-found (λ t. eqb b t && f t) n b h (ap₂ {C = Bool} ◌&&◌ (eq-eqb b b refl) e))
+    let p = below_find f n e in
+    test_cases (λ _. below f few ≡ true) (ltb p.at few) (λ t. below-found f few p.at (ltb-true p.at few t) p.passes)
+    (λ t. absurd (false≢true (sym (none p.at (ltb-false p.at few t) p.under) ∙ p.passes))))

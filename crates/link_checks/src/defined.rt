@@ -2,7 +2,7 @@
 // Assumes nothing.
 ghost use Rattle.std.specs.Prelude.{◌≡◌};
 ghost use Rattle.std.specs.List.{list_any, zip};
-ghost use Rattle.link_checks.specs.Lost.{has_label, has_routine, is_lost};
+ghost use Rattle.link_checks.specs.Lost.{has_label, is_lost};
 
 use symbols::known::Known;
 use symbols::tags::Purpose;
@@ -18,20 +18,13 @@ fn has_label(known: &Known, key: u64, scope: u64) -> bool
         .any(|label| label.key == key && label.scope == scope)
 }
 
-// whether a routine is declared
-fn has_routine(known: &Known, key: u64) -> bool
-    ensures { result ≡ has_routine known.now key }
-{
-    known.routines.iter().any(|routine| routine.key == key)
-}
-
 // whether a use is of a label that its scope does not have, or of a routine that is not declared
 pub fn is_lost(known: &Known, key: u64, scope: u64, purpose: Purpose) -> bool
     ensures { result ≡ is_lost known.now key scope purpose }
 {
     match purpose {
         Purpose::Label => !has_label(known, key, scope),
-        Purpose::Routine => !has_routine(known, key),
+        Purpose::Routine => !known.has_routine(key),
         Purpose::Program | Purpose::Number | Purpose::String => false,
     }
 }

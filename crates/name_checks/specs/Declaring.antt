@@ -3,11 +3,11 @@ use Rattle.std.specs.Prelude.{Bool, false, cond, not, ◌&&◌, ◌||◌, List, 
 use Rattle.base.specs.Lists.{same, any}
 use Rattle.validation.specs.Environment.{Label, Routine, is_one_of, same_mention}
 use Rattle.syntax.specs.Parsing.{for_label, for_routine, for_number, same_purpose, Mention}
-use Rattle.symbols.specs.declared.Mentioned.{Mentioned}
+use Rattle.name_checks.specs.declared.entries.Entries.{Entries}
 use Rattle.symbols.specs.declared.known.Known.{Known}
 use Rattle.symbols.specs.Entries.{name_of, mention_of, declares_name, gather, declared_by}
 use Rattle.symbols.specs.Environment.{labels_in, routines_in, number_keys}
-use Rattle.name_checks.specs.Arrays.{entry_in, entries_left}
+use Rattle.name_checks.specs.Shown.{entry_in, entries_left}
 
 -- a label, routine or number known is declared, as validation/Refusals: is_declared_before has it
 unfoldable pub declared_in : Known → Mention → Bool
@@ -26,7 +26,7 @@ again f [] = false
 again f (n ∷ ns) = (f n || any (same_mention n) ns) || again f ns
 
 -- the entry at a place declares a name that passes the test or is declared again behind it
-unfoldable pub again_at : (Mention → Bool) → Mentioned → (met i : ℕ) → Bool
-again_at f m met i =
+unfoldable pub again_at : (Mention → Bool) → Entries → (i : ℕ) → Bool
+again_at f m i =
     let x = entry_in m i in
-    cond (declares_name x) (f (mention_of x) || any (same_mention (mention_of x)) (gather declared_by (entries_left m met (i + 1)))) false
+    cond (declares_name x) (f (mention_of x) || any (same_mention (mention_of x)) (gather declared_by (entries_left m (i + 1)))) false

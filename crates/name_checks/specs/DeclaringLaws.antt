@@ -9,7 +9,7 @@ use Rattle.base.specs.Choice.{test_cases}
 use Rattle.base.specs.Lists.{same, any}
 use Rattle.validation.specs.Environment.{same_mention}
 use Rattle.syntax.specs.Parsing.{purpose_number, same_purpose, for_number, Mention}
-use Rattle.symbols.specs.declared.Mentioned.{Mentioned}
+use Rattle.name_checks.specs.declared.entries.Entries.{Entries}
 use Rattle.symbols.specs.declared.known.Known.{Known}
 use Rattle.symbols.specs.declared.tags.Purpose.{Purpose}
 use Rattle.symbols.specs.declared.tags.Purpose.TheVariants.{Program, Label, Routine, Number, String}
@@ -17,7 +17,7 @@ use Rattle.symbols.specs.declared.tags.Tag.{Tag}
 use Rattle.symbols.specs.Entries.{entry, name_of, purpose_meaning, tag_purpose, tag_declares, mention_of, declares_name, gather, declared_by, used_by}
 use Rattle.symbols.specs.Environment.{labels_in, routines_in, number_keys, keys_have}
 use Rattle.symbols.specs.EnvironmentLaws.{name-same, names_have, labels_have, routines_have}
-use Rattle.name_checks.specs.Arrays.{key_in, tag_in, entries_left}
+use Rattle.name_checks.specs.Shown.{key_in, tag_in, entries_left}
 use Rattle.name_checks.specs.Declaring.{declared_in, undeclared_in, again_at}
 use Rattle.name_checks.specs.NameLaws.{eqb_sym}
 use Rattle.name_checks.specs.Names.{key_mention}
@@ -66,13 +66,13 @@ lacks_is known key tag =
     (tag_declares tag) (λ _. refl) (λ _. or-false (undeclared_in known x) ∙ ap (λ b. number && not b) (names_have key (number_keys known)))
 
 -- an entry declares a name again
-pub again_is : (f : Mention → Bool) (m : Mentioned) (met i : ℕ)
-    → again_at f m met i
+pub again_is : (f : Mention → Bool) (m : Entries) (i : ℕ)
+    → again_at f m i
     ≡ (tag_declares (tag_in m i)
     && (f (key_mention (key_in m i) (tag_purpose (tag_in m i)))
-    || any (same_mention (key_mention (key_in m i) (tag_purpose (tag_in m i)))) (gather declared_by (entries_left m met (i + 1)))))
+    || any (same_mention (key_mention (key_in m i) (tag_purpose (tag_in m i)))) (gather declared_by (entries_left m (i + 1)))))
 unfolding again_at declares_name mention_of entry
-again_is f m met i =
+again_is f m i =
     let name = key_mention (key_in m i) (tag_purpose (tag_in m i)) in
-    let twice = f name || any (same_mention name) (gather declared_by (entries_left m met (i + 1))) in
+    let twice = f name || any (same_mention name) (gather declared_by (entries_left m (i + 1))) in
     test_cases (λ t. cond t twice false ≡ (t && twice)) (tag_declares (tag_in m i)) (λ _. refl) (λ _. refl)

@@ -10,17 +10,18 @@ use Rattle.validation.specs.RefusalNumbers.{judged_number, refusal_number_some}
 use Rattle.validation.specs.declared.Refusal.{Refusal}
 use Rattle.validation.specs.declared.Refusal.TheVariants.{NameClash}
 use Rattle.syntax.specs.Parsing.{Mention}
-use Rattle.symbols.specs.declared.Mentioned.{Mentioned}
 use Rattle.symbols.specs.declared.known.Names.{Names}
 use Rattle.symbols.specs.declared.tags.Purpose.{Purpose}
 use Rattle.symbols.specs.declared.tags.Purpose.TheVariants.{Program}
+use Rattle.symbols.specs.declared.tags.Tag.{Tag}
 use Rattle.symbols.specs.Clauses.{names_room}
 use Rattle.symbols.specs.Entries.{NameEntry, entry, tag_purpose, tag_declares, mention_of, declares_name, gather}
 use Rattle.symbols.specs.EntryLaws.{gather_append}
 use Rattle.symbols.specs.From.{values_from, from_last}
 use Rattle.symbols.specs.Holding.{mention_in, names_in}
-use Rattle.name_checks.specs.ArrayLaws.{names_kept}
-use Rattle.name_checks.specs.Arrays.{key_in, tag_in, entry_in, entries_from, entries_left}
+use Rattle.name_checks.specs.declared.entries.Entries.{Entries}
+use Rattle.name_checks.specs.Shown.{entry_count, entry_in, entries_to, entries_in, entries_left}
+use Rattle.name_checks.specs.ShownLaws.{names_kept}
 use Rattle.name_checks.specs.LoopLaws.{from_parts}
 use Rattle.name_checks.specs.NameLaws.{enters-append, conflicts-append}
 use Rattle.name_checks.specs.Names.{key_mention, standing, meet, enters, conflicts, chosen_by, chosen_in, Enters}
@@ -100,52 +101,57 @@ module _ (names : Names) (key : ℕ) (p : Purpose) where
         }
 
 -- the names of the entries, one by one
-module _ (names : Names) (m : Mentioned) (met : ℕ) (declared : Bool) where
-  pub entering_none : Enters names (chosen_in declared m 0) names (Ok tt)
+module _ (names : Names) (m : Entries) (declared : Bool) where
+  abbrev pub chosen_to : ℕ → List Mention
+  chosen_to i = chosen_in declared (entries_to m i)
+
+  pub entering_none : Enters names (chosen_to 0) names (Ok tt)
   unfolding values_from gather
   entering_none = enters_none names
 
-  module _ (names' : Names) (r : Result (Unit {0}) Refusal) (i : ℕ) (n : Enters names (chosen_in declared m i) names' r) where
+  -- the entry that comes at a place
+  module _ (names' : Names) (r : Result (Unit {0}) Refusal) (i : ℕ) (n : Enters names (chosen_to i) names' r) (key : ℕ) (tag : Tag)
+      (at : (i < entry_count m) × (entry key tag ≡ entry_in m i)) where
     abbrev f : NameEntry → List Mention
     f = chosen_by declared
 
-    abbrev xs : List Mention
-    xs = chosen_in declared m i
-
-    done : chosen_in declared m (i + 1) ≡ xs ++ f (entry_in m i)
+    done : chosen_to (i + 1) ≡ chosen_to i ++ f (entry key tag)
     unfolding gather
     done =
-        ap (gather f) (from_last (entry_in m) i)
-        ∙ gather_append f (entries_from m 0 i) (entry_in m i ∷ [])
-        ∙ ap (λ (l : List Mention). xs ++ l) (append-nil (f (entry_in m i)))
+        ap (gather f) (from_last (entry_in m) i ∙ ap (λ (x : NameEntry). entries_to m i ++ (x ∷ [])) (sym at.1))
+        ∙ gather_append f (entries_to m i) (entry key tag ∷ [])
+        ∙ ap (λ (l : List Mention). chosen_to i ++ l) (append-nil (f (entry key tag)))
 
-    -- the entry is chosen
-    module _ (e : beq (tag_declares (tag_in m i)) declared ≡ true) where
-      it : f (entry_in m i) ≡ key_mention (key_in m i) (tag_purpose (tag_in m i)) ∷ []
+    -- it is chosen
+    module _ (e : beq (tag_declares tag) declared ≡ true) where
+      abbrev it : Mention
+      it = key_mention key (tag_purpose tag)
+
+      is : f (entry key tag) ≡ it ∷ []
       unfolding chosen_by entry mention_of declares_name
-      it = rw e
+      is = rw e
 
-      pub meeting_room : i < met → names.count + length (chosen_in declared m met) ≤ names_room → names'.count < names_room
-      meeting_room h room =
-          let left = gather f (entries_left m met (i + 1)) in
-          let all : chosen_in declared m (i + 1) ++ left ≡ chosen_in declared m met =
-          sym (gather_append f (entries_from m 0 (i + 1)) (entries_left m met (i + 1)))
-          ∙ ap (gather f) (from_parts (entry_in m) met (i + 1) (omega arith))
+      next : chosen_to i ++ (it ∷ []) ≡ chosen_to (i + 1)
+      next = sym (done ∙ ap (λ (l : List Mention). chosen_to i ++ l) is)
+
+      pub entering_room : names.count + length (chosen_in declared (entries_in m)) ≤ names_room → names'.count < names_room
+      entering_room room =
+          let left = chosen_in declared (entries_left m (i + 1)) in
+          let all : chosen_to (i + 1) ++ left ≡ chosen_in declared (entries_in m) =
+          sym (gather_append f (entries_to m (i + 1)) (entries_left m (i + 1)))
+          ∙ ap (gather f) (from_parts (entry_in m) (entry_count m) (i + 1) (omega (arith, at.0)))
           in
-          let one = ap length it in
-          let these = ap length done ∙ length-append xs (f (entry_in m i)) in
-          let those = sym (ap length all) ∙ length-append (chosen_in declared m (i + 1)) left in
+          let these = sym (ap length next) ∙ length-append (chosen_to i) (it ∷ []) in
+          let those = sym (ap length all) ∙ length-append (chosen_to (i + 1)) left in
           omega (arith, n.few)
 
-      pub meeting_one : (names'' : Names) (q : Result (Unit {0}) Refusal)
-          → Enters names' (key_mention (key_in m i) (tag_purpose (tag_in m i)) ∷ []) names'' q
-          → Enters names (chosen_in declared m (i + 1)) names'' (result_and r q)
-      meeting_one names'' q w =
-          subst (λ l. Enters names l names'' (result_and r q)) (sym (done ∙ ap (λ (l : List Mention). xs ++ l) it))
-          (enters_then names names' names'' xs _ r q n w)
+      pub entering_one : (names'' : Names) (q : Result (Unit {0}) Refusal) → Enters names' (it ∷ []) names'' q
+          → Enters names (chosen_to (i + 1)) names'' (result_and r q)
+      entering_one names'' q w =
+          subst (λ l. Enters names l names'' (result_and r q)) next (enters_then names names' names'' (chosen_to i) (it ∷ []) r q n w)
 
-    pub meeting_other : beq (tag_declares (tag_in m i)) declared ≡ false → Enters names (chosen_in declared m (i + 1)) names' r
+    pub entering_other : beq (tag_declares tag) declared ≡ false → Enters names (chosen_to (i + 1)) names' r
     unfolding chosen_by entry declares_name
-    meeting_other e =
-        let it : f (entry_in m i) ≡ [] = rw e in
-        subst (λ l. Enters names l names' r) (sym (done ∙ ap (λ (l : List Mention). xs ++ l) it ∙ append-nil xs)) n
+    entering_other e =
+        let none : f (entry key tag) ≡ [] = rw e in
+        subst (λ l. Enters names l names' r) (sym (done ∙ ap (λ (l : List Mention). chosen_to i ++ l) none ∙ append-nil (chosen_to i))) n

@@ -1,6 +1,6 @@
 -- What the symbol table holds is what it shows; before the first statement that is nothing; entries noted stand among the names mentioned.
 -- Assumes nothing.
-use Rattle.std.specs.Prelude.{List, [], ◌∷◌, ◌++◌, map, ◌≡◌, refl, ℕ, zero, suc, ◌≤◌, length}
+use Rattle.std.specs.Prelude.{List, [], ◌∷◌, ◌++◌, map, ◌≡◌, refl, ℕ, ◌≤◌, length}
 use Rattle.std.proofs.Common.{sym, ap, ap₂, ◌∙◌, arith}
 use Rattle.base.specs.Lists.{any, keep}
 use Rattle.encoding.specs.Splices.{splice}
@@ -15,7 +15,8 @@ use Rattle.symbols.specs.Entries.{NameEntry, entry, name_of, name_from}
 use Rattle.symbols.specs.From.{values_from}
 use Rattle.symbols.specs.Holding.{SymbolsHold, names_in, uses_in, uses_from}
 use Rattle.symbols.specs.Environment.{nothing_known, labels_in, routines_in, latest_first}
-use Rattle.name_checks.specs.Arrays.{environment_in, entry_in, entries_from}
+use Rattle.name_checks.specs.Shown.{environment_in, entry_at, entries_from}
+use Rattle.name_checks.specs.ShownLaws.{from-behind}
 
 -- what is held is what is shown
 pub held-shown : (s : Symbols) (taken : ℕ) (k : Environment) → SymbolsHold s taken k → environment_in s ≡ k
@@ -105,14 +106,6 @@ nothing_held s known names uses =
       single = refl;
     }
 
--- behind a first name, places are one less
-entries-behind : (x : ℕ) (y : Tag) (keys : List ℕ) (tags : List Tag) (i n : ℕ)
-    → entries_from (record { keys = x ∷ keys; tags = y ∷ tags }) (suc i) n ≡ entries_from (record { keys = keys; tags = tags }) i n
-unfolding values_from
-entries-behind x y keys tags i zero = refl
-entries-behind x y keys tags i (suc n) =
-    ap (λ (es : List NameEntry). entry_in (record { keys = keys; tags = tags }) i ∷ es) (entries-behind x y keys tags (suc i) n)
-
 -- entries that stand first are those there
 entries-first : (es : List NameEntry) (keys : List ℕ) (tags : List Tag)
     → entries_from (record { keys = map (λ x. x.key) es ++ keys; tags = map (λ x. x.tag) es ++ tags }) 0 (length es) ≡ es
@@ -120,7 +113,9 @@ unfolding values_from entry
 entries-first [] keys tags = refl
 entries-first (e ∷ es) keys tags =
     ap (λ (fs : List NameEntry). e ∷ fs)
-    (entries-behind e.key e.tag (map (λ x. x.key) es ++ keys) (map (λ x. x.tag) es ++ tags) 0 (length es) ∙ entries-first es keys tags)
+    (from-behind (entry_at (map (λ x. x.key) (e ∷ es) ++ keys) (map (λ x. x.tag) (e ∷ es) ++ tags))
+    (entry_at (map (λ x. x.key) es ++ keys) (map (λ x. x.tag) es ++ tags)) 0 (length es) (λ j. refl)
+    ∙ entries-first es keys tags)
 
 -- entries noted from the beginning on are those there
 pub entries-noted : (m m' : Mentioned) (es : List NameEntry) → m'.keys ≡ splice m.keys 0 (map (λ x. x.key) es)

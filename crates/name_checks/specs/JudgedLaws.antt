@@ -10,14 +10,11 @@ use Rattle.validation.specs.RefusalNumbers.{refusal_number, judged_number, refus
 use Rattle.validation.specs.Refusals.{has_other_purpose, has_duplicate, clashes}
 use Rattle.validation.specs.declared.Refusal.{Refusal}
 use Rattle.syntax.specs.Parsing.{Mention}
-use Rattle.symbols.specs.declared.Mentioned.{Mentioned}
 use Rattle.symbols.specs.declared.known.Known.{Known}
 use Rattle.symbols.specs.declared.known.Names.{Names}
 use Rattle.symbols.specs.Clauses.{names_room}
 use Rattle.symbols.specs.Entries.{NameEntry, mention_of, declares_name, gather, declared_by, used_by, roles_by}
-use Rattle.symbols.specs.From.{length_from}
 use Rattle.symbols.specs.Holding.{names_in}
-use Rattle.name_checks.specs.Arrays.{entry_in, entries_from}
 use Rattle.name_checks.specs.Declaring.{declared_in, undeclared_in, again}
 use Rattle.name_checks.specs.EnteringLaws.{enters_then}
 use Rattle.name_checks.specs.Judged.{names_of, names_number, first_number, NamesReady, NamesJudged}
@@ -65,25 +62,21 @@ again-is f (n ∷ ns) =
     ap (λ b. (f n || any (same_mention n) ns) || b) (again-is f ns) ∙ or_pairs (f n) (any (same_mention n) ns) (any f ns) (has_duplicate ns)
 
 -- what judging the names does
-module _ (known : Known) (names : Names) (m : Mentioned) (met : ℕ) (ready : NamesReady names met) where
-  abbrev es : List NameEntry
-  es = entries_from m 0 met
-
+module _ (known : Known) (names : Names) (es : List NameEntry) (ready : NamesReady names es) where
   abbrev ns : List Mention
   ns = names_in names
 
   abbrev declared : List Mention
-  declared = chosen_in true m met
+  declared = chosen_in true es
 
   abbrev used : List Mention
-  used = chosen_in false m met
+  used = chosen_in false es
 
   together : declared ++ used ≡ names_of es
   together = ap₂ {C = List Mention} ◌++◌ (chosen_declared es) (chosen-used es)
 
-  size : length declared + length used ≡ met
-  size =
-      omega (arith, ap length (chosen_declared es), ap length (chosen-used es), chosen_size es, length_from (entry_in m) 0 met)
+  size : length declared + length used ≡ length es
+  size = omega (arith, ap length (chosen_declared es), ap length (chosen-used es), chosen_size es)
 
   clash_is : conflicts ns (names_of es) ≡ any (has_other_purpose (ns ++ names_of es)) (names_of es)
   clash_is = conflicts-is ns (names_of es) ready.single
@@ -96,8 +89,8 @@ module _ (known : Known) (names : Names) (m : Mentioned) (met : ℕ) (ready : Na
   room_second names' n = omega (arith, ready.room, size, n.few)
 
   -- one of the first names has two purposes
-  refused : (xs ys : List Mention) → xs ++ ys ≡ names_of es → length xs ≤ met → (names' : Names) {e : Refusal}
-      → Enters names xs names' (Err e) → NamesJudged known names m met names' (Err e)
+  refused : (xs ys : List Mention) → xs ++ ys ≡ names_of es → length xs ≤ length es → (names' : Names) {e : Refusal}
+      → Enters names xs names' (Err e) → NamesJudged known names es names' (Err e)
   unfolding names_number
   refused xs ys all few names' {e} n =
       let clash : refusal_number e ≡ cond (conflicts ns xs) 6 0 = n.clash in
@@ -115,7 +108,7 @@ module _ (known : Known) (names : Names) (m : Mentioned) (met : ℕ) (ready : Na
       }
 
   -- a name declared has two purposes
-  pub names_refused : (names' : Names) {e : Refusal} → Enters names declared names' (Err e) → NamesJudged known names m met names' (Err e)
+  pub names_refused : (names' : Names) {e : Refusal} → Enters names declared names' (Err e) → NamesJudged known names es names' (Err e)
   names_refused = refused declared used together (omega (arith, size))
 
   module _ (names'' names' : Names) (first : Enters names declared names'' (Ok tt)) where
@@ -123,14 +116,14 @@ module _ (known : Known) (names : Names) (m : Mentioned) (met : ℕ) (ready : Na
     all_entered {r} w = subst (λ l. Enters names l names' r) together (enters_then names names'' names' declared used (Ok tt) r first w)
 
     -- a name used has two purposes
-    pub used_refused : {e : Refusal} → Enters names'' used names' (Err e) → NamesJudged known names m met names' (Err e)
+    pub used_refused : {e : Refusal} → Enters names'' used names' (Err e) → NamesJudged known names es names' (Err e)
     used_refused w =
         refused (names_of es) [] (append-nil (names_of es))
         (omega (arith, size, ap length together, length-append declared used)) names' (all_entered w)
 
     -- none has: the first of the numbers
     pub names_judged : Enters names'' used names' (Ok tt) → (r : Result (Unit {0}) Refusal) → judged_number r ≡ first_number known es
-        → NamesJudged known names m met names' r
+        → NamesJudged known names es names' r
     unfolding names_number first_number
     names_judged w r e =
         let n = all_entered w in

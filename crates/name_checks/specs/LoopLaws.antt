@@ -2,7 +2,7 @@
 use Rattle.std.specs.Prelude.{Bool, true, ◌||◌, ◌≡◌, refl, ℕ, zero, suc, ◌+◌, ◌-◌, ◌≤◌, ◌<◌, eqb, ltb, ◌==◌, get_or, take, length, Some, None}
 use Rattle.std.specs.List.{position, position_or_len, list_any, range_with_len}
 use Rattle.std.proofs.Math.Bool.{false, cond}
-use mathlib.Core.List.{List, [], ◌∷◌, ◌++◌, append_assoc}
+use mathlib.Core.List.{List, [], ◌∷◌, ◌++◌, map, append_assoc}
 use Rattle.std.proofs.Common.{sym, ◌∙◌, arith, eq-eqb, ne_eqb, eqb-true, ltb-false}
 use Rattle.std.proofs.lemmas.Bool.{eqb-false}
 use Rattle.std.proofs.lemmas.List.{get_or-take, length-take-le}
@@ -14,14 +14,16 @@ use Rattle.base.specs.Lists.{any}
 use Rattle.validation.specs.Environment.{same_mention}
 use Rattle.validation.specs.Names.{any_append}
 use Rattle.syntax.specs.Parsing.{same_purpose, Mention}
-use Rattle.symbols.specs.declared.Mentioned.{Mentioned}
+use Rattle.name_checks.specs.declared.entries.Entries.{Entries}
 use Rattle.symbols.specs.declared.tags.Purpose.{Purpose}
 use Rattle.symbols.specs.declared.tags.Purpose.TheVariants.{Program}
+use Rattle.symbols.specs.declared.tags.Tag.{Tag}
 use Rattle.symbols.specs.Entries.{NameEntry, purpose_meaning, mention_of, declares_name, gather, declared_by}
 use Rattle.symbols.specs.From.{values_from, from-turn, from_none, from_more}
 use Rattle.symbols.specs.Holding.{mention_in, names_from}
 use Rattle.symbols.specs.EnvironmentLaws.{name-same}
-use Rattle.name_checks.specs.Arrays.{entry_in, entries_from, entries_left}
+use Rattle.name_checks.specs.Shown.{entry_count, entry_in, entries_to, entries_in, entries_left}
+use Rattle.name_checks.specs.PairLaws.{paired, pairs, all_paired}
 use Rattle.name_checks.specs.Declaring.{again, again_at}
 use Rattle.name_checks.specs.Names.{key_mention, standing}
 
@@ -117,57 +119,61 @@ module _ (keys : List ℕ) (purposes : List Purpose) (n key : ℕ) (p : Purpose)
     stands_other f = sym before ∙ standing-other keys purposes n key p i stands_inside here f
 
 -- a test of each entry left, one by one
-module _ {A : Type 0} (f : A → Bool) (g : NameEntry → List A) (m : Mentioned) (met : ℕ) where
+module _ {A : Type 0} (f : A → Bool) (g : NameEntry → List A) (m : Entries) where
   abbrev pub any_from : ℕ → Bool
-  any_from i = any f (gather g (entries_left m met i))
+  any_from i = any f (gather g (entries_left m i))
 
-  pub any_turn : (i : ℕ) → i < met → any_from i ≡ (any f (g (entry_in m i)) || any_from (i + 1))
+  pub any_turn : (i : ℕ) → i < entry_count m → any_from i ≡ (any f (g (entry_in m i)) || any_from (i + 1))
   unfolding gather
   any_turn i h =
-      ap (λ es. any f (gather g es)) (from-turn (entry_in m) met i h)
-      ∙ any_append f (g (entry_in m i)) (gather g (entries_left m met (i + 1)))
+      ap (λ es. any f (gather g es)) (from-turn (entry_in m) (entry_count m) i h)
+      ∙ any_append f (g (entry_in m i)) (gather g (entries_left m (i + 1)))
 
-  pub any_end : (i : ℕ) → met ≤ i → any_from i ≡ false
+  pub any_end : (i : ℕ) → entry_count m ≤ i → any_from i ≡ false
   unfolding gather any
-  any_end i h = ap (λ es. any f (gather g es)) (from_none (entry_in m) met i h)
-
-  any_over : (i n : ℕ) → i + n ≡ met → list_any (λ j. any f (g (entry_in m j))) (range_with_len i n) ≡ any_from i
-  any_over i zero h = sym (any_end i (omega arith))
-  any_over i (suc n) h =
-      ap (λ b. any f (g (entry_in m i)) || b) (any_over (i + 1) n (omega arith)) ∙ sym (any_turn i (omega arith))
-
-  pub any_all : list_any (λ j. any f (g (entry_in m j))) (range_with_len 0 met) ≡ any f (gather g (entries_from m 0 met))
-  any_all = let all : met - 0 ≡ met = omega arith in any_over 0 met (omega arith) ∙ ap (λ n. any f (gather g (entries_from m 0 n))) all
+  any_end i h = ap (λ es. any f (gather g es)) (from_none (entry_in m) (entry_count m) i h)
 
 pub ruleset any_steps = (any_turn, any_end)
 
--- names declared again, one by one
-module _ (f : Mention → Bool) (m : Mentioned) (met : ℕ) where
-  abbrev again_from : ℕ → Bool
-  again_from i = again f (gather declared_by (entries_left m met i))
+-- and of all of them, by the pairs of their keys and tags
+any_paired : {A : Type 0} (f : A → Bool) (g : NameEntry → List A) (ps : List (ℕ × Tag))
+    → list_any (λ p. any f (g (paired p))) ps ≡ any f (gather g (map paired ps))
+unfolding gather any
+any_paired f g [] = refl
+any_paired f g (p ∷ ps) =
+    ap (λ b. any f (g (paired p)) || b) (any_paired f g ps) ∙ sym (any_append f (g (paired p)) (gather g (map paired ps)))
 
-  again_turn : (i : ℕ) → i < met → again_from i ≡ (again_at f m met i || again_from (i + 1))
+pub any_all : {A : Type 0} (f : A → Bool) (g : NameEntry → List A) (m : Entries)
+    → list_any (λ p. any f (g (paired p))) (pairs m) ≡ any f (gather g (entries_in m))
+any_all f g m = any_paired f g (pairs m) ∙ ap (λ es. any f (gather g es)) (all_paired m)
+
+-- names declared again, one by one
+module _ (f : Mention → Bool) (m : Entries) where
+  abbrev again_from : ℕ → Bool
+  again_from i = again f (gather declared_by (entries_left m i))
+
+  again_turn : (i : ℕ) → i < entry_count m → again_from i ≡ (again_at f m i || again_from (i + 1))
   unfolding gather declared_by again again_at
   again_turn i h =
       let x = entry_in m i in
-      let behind = gather declared_by (entries_left m met (i + 1)) in
-      ap (λ es. again f (gather declared_by es)) (from-turn (entry_in m) met i h)
+      let behind = gather declared_by (entries_left m (i + 1)) in
+      ap (λ es. again f (gather declared_by es)) (from-turn (entry_in m) (entry_count m) i h)
       ∙ test_cases
       (λ t. again f (cond t (mention_of x ∷ []) [] ++ behind)
       ≡ (cond t (f (mention_of x) || any (same_mention (mention_of x)) behind) false || again f behind)) (declares_name x) (λ _. refl) (λ _. refl)
 
-  again_end : (i : ℕ) → met ≤ i → again_from i ≡ false
+  again_end : (i : ℕ) → entry_count m ≤ i → again_from i ≡ false
   unfolding gather again
-  again_end i h = ap (λ es. again f (gather declared_by es)) (from_none (entry_in m) met i h)
+  again_end i h = ap (λ es. again f (gather declared_by es)) (from_none (entry_in m) (entry_count m) i h)
 
-  again_over : (i n : ℕ) → i + n ≡ met → list_any (again_at f m met) (range_with_len i n) ≡ again_from i
+  again_over : (i n : ℕ) → i + n ≡ entry_count m → list_any (again_at f m) (range_with_len i n) ≡ again_from i
   again_over i zero h = sym (again_end i (omega arith))
-  again_over i (suc n) h = ap (λ b. again_at f m met i || b) (again_over (i + 1) n (omega arith)) ∙ sym (again_turn i (omega arith))
+  again_over i (suc n) h = ap (λ b. again_at f m i || b) (again_over (i + 1) n (omega arith)) ∙ sym (again_turn i (omega arith))
 
-  pub again_all : list_any (again_at f m met) (range_with_len 0 met) ≡ again f (gather declared_by (entries_from m 0 met))
+  pub again_all : list_any (again_at f m) (range_with_len 0 (entry_count m)) ≡ again f (gather declared_by (entries_in m))
   again_all =
-      let all : met - 0 ≡ met = omega arith in
-      again_over 0 met (omega arith) ∙ ap (λ n. again f (gather declared_by (entries_from m 0 n))) all
+      let all : entry_count m - 0 ≡ entry_count m = omega arith in
+      again_over 0 (entry_count m) (omega arith) ∙ ap (λ n. again f (gather declared_by (entries_to m n))) all
 
 -- the values up to a place and those from it on
 pub from_parts : {A : Type 0} (f : ℕ → A) (n i : ℕ) → i ≤ n → values_from f 0 i ++ values_from f i (n - i) ≡ values_from f 0 n

@@ -6,13 +6,11 @@ use Rattle.validation.specs.RefusalNumbers.{judged_number}
 use Rattle.validation.specs.Refusals.{has_other_purpose}
 use Rattle.validation.specs.declared.Refusal.{Refusal}
 use Rattle.syntax.specs.Parsing.{same_purpose, Mention}
-use Rattle.symbols.specs.declared.Mentioned.{Mentioned}
 use Rattle.symbols.specs.declared.known.Names.{Names}
 use Rattle.symbols.specs.declared.tags.Purpose.{Purpose}
 use Rattle.symbols.specs.declared.tags.Purpose.TheVariants.{Program}
 use Rattle.symbols.specs.Entries.{NameEntry, name_of, purpose_meaning, mention_of, declares_name, gather}
 use Rattle.symbols.specs.Holding.{names_in}
-use Rattle.name_checks.specs.Arrays.{entries_from}
 
 -- a name by key and purpose
 abbrev pub key_mention : (key : ℕ) (purpose : Purpose) → Mention
@@ -44,9 +42,8 @@ conflicts ns (x ∷ xs) = eqb (standing ns x) 2 || conflicts (meet ns x) xs
 unfoldable pub chosen_by : (declared : Bool) → NameEntry → List Mention
 chosen_by declared x = cond (beq (declares_name x) declared) (mention_of x ∷ []) []
 
--- the same of the names met
-abbrev pub chosen_in : (declared : Bool) → Mentioned → (met : ℕ) → List Mention
-chosen_in declared m met = gather (chosen_by declared) (entries_from m 0 met)
+abbrev pub chosen_in : (declared : Bool) → List NameEntry → List Mention
+chosen_in declared = gather (chosen_by declared)
 
 -- The names xs were put behind those known, which stay. Where one of them stands with another purpose it is told as 6, and the others are put.
 pub record Enters (names : Names) (xs : List Mention) (names' : Names) (r : Result (Unit {0}) Refusal) : Type 0 where

@@ -8,18 +8,18 @@ use Rattle.base.specs.Lists.{same, any}
 use Rattle.validation.specs.Environment.{is_one_of}
 use Rattle.validation.specs.Refusals.{clashes}
 use Rattle.syntax.specs.Parsing.{Role}
-use Rattle.symbols.specs.declared.Mentioned.{Mentioned}
+use Rattle.name_checks.specs.declared.entries.Entries.{Entries}
 use Rattle.symbols.specs.declared.tags.Tag.{Tag}
 use Rattle.symbols.specs.declared.tags.Tag.TheVariants.{SoughtUsed, FillerUsed}
 use Rattle.symbols.specs.Entries.{entry, name_of, name_from, tag_roles, gather, roles_by}
 use Rattle.symbols.specs.From.{from-turn, from_none}
 use Rattle.symbols.specs.EnvironmentLaws.{name-same}
-use Rattle.name_checks.specs.Arrays.{key_in, tag_in, entry_in, entries_from, entries_left}
+use Rattle.name_checks.specs.Shown.{entry_count, key_in, tag_in, entry_in, entries_to, entries_in, entries_left}
 use Rattle.name_checks.specs.NameLaws.{eqb_sym}
 use Rattle.name_checks.specs.Roles.{is_filler, fillers_before, fillers_have, Unclashed, clash_of, clash_at, searched_behind}
 
 -- a name is among the fillers by its key
-fillers_have_lem : (m : Mentioned) (n key : ℕ) → is_one_of (fillers_before m n) (name_of key) ≡ fillers_have m n key
+fillers_have_lem : (m : Entries) (n key : ℕ) → is_one_of (fillers_before m n) (name_of key) ≡ fillers_have m n key
 unfolding is_one_of any fillers_before fillers_have
 fillers_have_lem m zero key = refl
 fillers_have_lem m (suc n) key =
@@ -42,34 +42,34 @@ clash_role FillerUsed key searched fs has h rs =
 clash_role _ key searched fs has h rs = refl
 
 -- the roles left, with the key of the reference so far
-module _ (m : Mentioned) (met : ℕ) where
+module _ (m : Entries) where
   abbrev pub clash_from : ℕ → ℕ → Bool
-  clash_from searched i = clashes (name_of searched) (fillers_before m i) (gather roles_by (entries_left m met i))
+  clash_from searched i = clashes (name_of searched) (fillers_before m i) (gather roles_by (entries_left m i))
 
-  pub clash_turn : (searched i : ℕ) → i < met
+  pub clash_turn : (searched i : ℕ) → i < entry_count m
       → clash_from searched i ≡ (clash_at m i searched || clash_from (searched_behind (key_in m i) (tag_in m i) searched) (i + 1))
   unfolding gather roles_by entry clash_at fillers_before
   clash_turn searched i h =
       let k = key_in m i in
       let fs = fillers_before m i in
-      let rs = gather roles_by (entries_left m met (i + 1)) in
+      let rs = gather roles_by (entries_left m (i + 1)) in
       let next : suc i ≡ i + 1 = omega arith in
-      ap (λ es. clashes (name_of searched) fs (gather roles_by es)) (from-turn (entry_in m) met i h)
+      ap (λ es. clashes (name_of searched) fs (gather roles_by es)) (from-turn (entry_in m) (entry_count m) i h)
       ∙ clash_role (tag_in m i) k searched fs (fillers_have m i k) (fillers_have_lem m i k) rs
       ∙ ap (λ j. clash_at m i searched || clashes (name_of (searched_behind k (tag_in m i) searched)) (fillers_before m j) rs) next
 
-  pub clash_end : (searched i : ℕ) → met ≤ i → clash_from searched i ≡ false
+  pub clash_end : (searched i : ℕ) → entry_count m ≤ i → clash_from searched i ≡ false
   unfolding gather clashes
-  clash_end searched i h = ap (λ es. clashes (name_of searched) (fillers_before m i) (gather roles_by es)) (from_none (entry_in m) met i h)
+  clash_end searched i h = ap (λ es. clashes (name_of searched) (fillers_before m i) (gather roles_by es)) (from_none (entry_in m) (entry_count m) i h)
 
-  pub clash_whole : clash_from 0 0 ≡ clashes [] [] (gather roles_by (entries_from m 0 met))
+  pub clash_whole : clash_from 0 0 ≡ clashes [] [] (gather roles_by (entries_in m))
   unfolding name_of name_from fillers_before
   clash_whole =
-      let all : met - 0 ≡ met = omega arith in
-      ap (λ n. clashes [] [] (gather roles_by (entries_from m 0 n))) all
+      let all : entry_count m - 0 ≡ entry_count m = omega arith in
+      ap (λ n. clashes [] [] (gather roles_by (entries_to m n))) all
 
 -- a filler among those up to a place
-pub fillers_turn : (m : Mentioned) (key i : ℕ) → 0 < i
+pub fillers_turn : (m : Entries) (key i : ℕ) → 0 < i
     → fillers_have m i key ≡ ((is_filler (tag_in m (i - 1)) && eqb (key_in m (i - 1)) key) || fillers_have m (i - 1) key)
 unfolding fillers_have
 fillers_turn m key i h =
@@ -77,7 +77,7 @@ fillers_turn m key i h =
     ap (λ n. fillers_have m n key) is
 
 -- one role more that doesn't clash
-pub unclashed_more : (m : Mentioned) (i searched : ℕ) → Unclashed m i → clash_at m i searched ≡ false → Unclashed m (i + 1)
+pub unclashed_more : (m : Entries) (i searched : ℕ) → Unclashed m i → clash_at m i searched ≡ false → Unclashed m (i + 1)
 unfolding clash_at clash_of
 unclashed_more m i searched clear none j h role =
     let Free : ℕ → Type 0 = λ n. tag_in m n ≡ SoughtUsed → fillers_have m n (key_in m n) ≡ false in

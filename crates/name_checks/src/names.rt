@@ -1,12 +1,14 @@
 // The names known, each once with its purpose, and how a statement's names are put behind them.
 // Assumes nothing.
-ghost use Rattle.std.specs.Prelude.{◌≡◌, [], ◌∷◌, ◌+◌, ◌≤◌, ◌<◌, length};
+ghost use Rattle.std.specs.Prelude.{[], ◌∷◌, ◌+◌, ◌≤◌, ◌<◌, length};
 ghost use Rattle.symbols.specs.Clauses.{names_room};
+ghost use Rattle.name_checks.specs.Shown.{entries_in};
 ghost use Rattle.name_checks.specs.Names.{key_mention, chosen_in, Enters};
 
+use crate::entries::Entries;
 use symbols::known::Names;
+use symbols::place;
 use symbols::tags::Purpose;
-use symbols::{Mentioned, place};
 use validation::Refusal;
 
 // puts a name behind those known if it is new; one of them may not have another purpose
@@ -33,21 +35,20 @@ fn enter_name(names: &mut Names, key: u64, purpose: Purpose) -> Result<(), Refus
 }
 
 // puts the names declared, or those used, behind those known; one that clashes is told, and the others are put
+// kept: goes on behind a clash, since it promises the names behind one too: with `?` it would promise less
 // kept: declared is compared with what is_declared answers; an enum of the two would be turned back into that answer
 pub(crate) fn enter_names(
     names: &mut Names,
-    mentioned: &Mentioned,
-    met: usize,
+    entries: Entries,
     declared: bool,
 ) -> Result<(), Refusal>
-    requires { (names.old.count + length (chosen_in declared mentioned.now met) ≤ names_room) × (met ≤ names_room) }
-    ensures { Enters names.old (chosen_in declared mentioned.now met) names.new result }
+    requires { names.old.count + length (chosen_in declared (entries_in entries)) ≤ names_room }
+    ensures { Enters names.old (chosen_in declared (entries_in entries.entry)) names.new result }
 {
     let mut outcome = Ok(());
-    for i in 0..met {
-        let tag = mentioned.tags[i];
+    for (key, tag) in entries.keys.iter().zip(entries.tags) {
         if tag.is_declared() == declared {
-            outcome = outcome.and(enter_name(names, mentioned.keys[i], tag.purpose()));
+            outcome = outcome.and(enter_name(names, *key, tag.purpose()));
         }
     }
     outcome

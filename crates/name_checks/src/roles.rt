@@ -2,24 +2,23 @@
 // Assumes nothing.
 ghost use Rattle.std.specs.Prelude.{◌≡◌, [], ◌≤◌, ◌<◌};
 ghost use Rattle.validation.specs.Refusals.{clashes};
-ghost use Rattle.symbols.specs.Clauses.{names_room};
 ghost use Rattle.symbols.specs.Entries.{gather, roles_by};
-ghost use Rattle.name_checks.specs.Arrays.{entries_from};
+ghost use Rattle.name_checks.specs.Shown.{entry_count, entries_in};
 ghost use Rattle.name_checks.specs.Roles.{fillers_have, Unclashed, clash_at, searched_behind};
 
-use symbols::Mentioned;
+use crate::entries::Entries;
 use symbols::tags::Tag;
 
 // whether a filler before place n has this key, where no string before n clashes: the latest string or filler with the key tells
-// kept: a loop: a chain would be a find_map over pairs that makes of two tags true and false, and none of the others
+// kept: a loop: a find_map over the places back from n would have the same test and match, Some around true and false, and unwrap_or behind
 #[tactic(auto, using(crate::specs::RoleLaws::fillers_turn), unfolding(crate::specs::Roles::fillers_have, crate::specs::Roles::is_filler))]
-fn is_filler_before(mentioned: &Mentioned, n: usize, key: u64) -> bool
-    requires { (n ≤ names_room) × Unclashed mentioned.now n }
-    ensures { result ≡ fillers_have mentioned.now n key }
+fn is_filler_before(entries: Entries, n: usize, key: u64) -> bool
+    requires { (n ≤ entry_count entries) × Unclashed entries n }
+    ensures { result ≡ fillers_have entries.entry n key }
 {
     for i in (0..n).rev() {
-        if mentioned.keys[i] == key {
-            match mentioned.tags[i] {
+        if entries.keys[i] == key {
+            match entries.tags[i] {
                 Tag::FillerUsed => return true,
                 Tag::SoughtUsed => return false,
                 _ => {}
@@ -31,13 +30,13 @@ fn is_filler_before(mentioned: &Mentioned, n: usize, key: u64) -> bool
 
 // whether the role at a place clashes with those before it, with this key of the reference
 #[tactic(auto, unfolding(crate::specs::Roles::clash_at, crate::specs::Roles::clash_of))]
-fn clashes_at(mentioned: &Mentioned, i: usize, searched: u64) -> bool
-    requires { (i < names_room) × Unclashed mentioned.now i }
-    ensures { result ≡ clash_at mentioned.now i searched }
+fn clashes_at(entries: Entries, i: usize, searched: u64) -> bool
+    requires { (i < entry_count entries) × Unclashed entries i }
+    ensures { result ≡ clash_at entries.entry i searched }
 {
-    let key = mentioned.keys[i];
-    match mentioned.tags[i] {
-        Tag::SoughtUsed => is_filler_before(mentioned, i, key),
+    let key = entries.keys[i];
+    match entries.tags[i] {
+        Tag::SoughtUsed => is_filler_before(entries, i, key),
         Tag::FillerUsed => searched == key,
         _ => false,
     }
@@ -58,16 +57,15 @@ fn searched_behind(key: u64, tag: Tag, searched: u64) -> u64
 // 8: whether the roles of the names mentioned clash
 // kept: a loop: the key of the reference goes along from name to name, so a chain would be a try_fold that fails where a clash is found
 #[tactic(auto, using(crate::specs::RoleLaws::clash_steps))]
-pub fn has_clash(mentioned: &Mentioned, met: usize) -> bool
-    requires { met ≤ names_room }
-    ensures { result ≡ clashes [] [] (gather roles_by (entries_from mentioned.now 0 met)) }
+pub fn has_clash(entries: Entries) -> bool
+    ensures { result ≡ clashes [] [] (gather roles_by (entries_in entries.entry)) }
 {
     let mut searched: u64 = 0;
-    for i in 0..met {
-        if clashes_at(mentioned, i, searched) {
+    for i in 0..entries.keys.len() {
+        if clashes_at(entries, i, searched) {
             return true;
         }
-        searched = searched_behind(mentioned.keys[i], mentioned.tags[i], searched);
+        searched = searched_behind(entries.keys[i], entries.tags[i], searched);
     }
     false
 }

@@ -1,4 +1,5 @@
 -- The laws that several proofs share.
+mod Biases
 mod Comparisons
 mod Numbers
 mod Reading

@@ -1,9 +1,13 @@
 -- The code's sizes are those of the definitions, a number is what its bits are read as, and what an answer tells once its case is known.
 -- Assumes nothing.
-use Rattle.std.specs.Prelude.{true, List, ◌≡◌, refl, ℕ, ◌≤◌, ◌<◌, ◌^◌, ℤ, pos, negsuc, nat_abs, take, Ok, Err}
-use Rattle.std.proofs.Common.{sym, ap, subst, ◌∙◌, arith, SFits, of_z, to_z, leb-true}
+use Rattle.std.specs.Prelude.{true, List, ◌≡◌, refl, ℕ, ◌≤◌, ◌<◌, ◌^◌, ℤ, pos, negsuc, nat_abs, take, Some, None, Ok, Err}
+use Rattle.std.specs.Bool.{then_some}
+use Rattle.std.proofs.Common.{sym, ap, subst, ◌∙◌, arith, SFits, of_z, to_z, leb, le-leb, leb-true, leb-false}
+use Rattle.std.proofs.lemmas.Bool.{lt-leb}
+use Rattle.std.proofs.lemmas.Option.{none-some, same_Some}
 use Rattle.std.specs.Int.{w64}
 use Rattle.std.proofs.lemmas.Int.{to_z-of_z}
+use Rattle.base.specs.Choice.{test_cases}
 use Rattle.base.specs.Current.{current, limit, limit_is}
 use Rattle.values.specs.Conversion.{longest_string, text_of}
 use Rattle.values.specs.Numbers.{is_in_range}
@@ -12,13 +16,34 @@ use Rattle.values.specs.Stops.{stop_number}
 use Rattle.values.specs.declared.Noted.{Noted}
 use Rattle.values.specs.declared.Stop.{Stop}
 use Rattle.numbers.specs.declared.Int.{Int}
-use Rattle.numbers.specs.Numbers.{IntInRange, Number, worked, NumberWithin, NumberAnswers}
+use Rattle.numbers.specs.Numbers.{IntInRange, if_small, Number, worked, NumberWithin, NumberAnswers}
 use Rattle.numbers.specs.Text.{longest_text, Text, text_worked, Settled, TextWritten}
 
 -- a number that passes the test is in range
 pub in_range_lem : (z : ℤ) → is_in_range current z ≡ true → nat_abs z ≤ limit
 unfolding is_in_range
 in_range_lem z h = rw limit_is at (leb-true (nat_abs z) current.limit h)
+
+-- a number that is at most the limit, and one that is above
+pub small_is : {n v : ℕ} → if_small n ≡ Some v → (v ≡ n) × (v ≤ limit)
+unfolding if_small
+small_is {n} {v} =
+    test_cases (λ t. then_some t n ≡ Some v → (v ≡ n) × (v ≤ limit)) (leb n limit)
+    (λ s e. let same = same_Some n v e in (sym same, omega (arith, leb-true n limit s)))
+    (λ _ e. absurd (none-some v e))
+
+pub not_small : (n : ℕ) → if_small n ≡ None → limit < n
+unfolding if_small
+not_small n =
+    test_cases (λ t. then_some t n ≡ None → limit < n) (leb n limit) (λ _ e. absurd (none-some n (sym e))) (λ s _. leb-false n limit s)
+
+pub small : (n : ℕ) → n ≤ limit → if_small n ≡ Some n
+unfolding if_small
+small n h = rw (le-leb n limit h)
+
+pub beyond : (n : ℕ) → limit < n → if_small n ≡ None
+unfolding if_small
+beyond n h = rw (lt-leb n limit h)
 
 -- the code's longest string is that of the definitions
 pub longest-is : longest_string ≡ longest_text

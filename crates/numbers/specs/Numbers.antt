@@ -1,9 +1,10 @@
 -- The code's numbers and comparisons, as document 01 has them. Assumes nothing.
 use Rattle.std.specs.Prelude as std
-use Rattle.std.specs.Prelude.{cond, List, ◌≡◌, ℕ, ◌≤◌, ◌<◌, ℤ, nat_abs, Ok, Err}
+use Rattle.std.specs.Prelude.{true, false, cond, Option, Some, None, List, ◌≡◌, ℕ, ◌≤◌, ◌<◌, leb, ℤ, nat_abs, Ok, Err}
+use Rattle.std.specs.Bool.{then_some}
 use Rattle.base.specs.Current.{limit}
 use Rattle.syntax.specs.Program as Program
-use Rattle.values.specs.Conversion.{is_signed}
+use Rattle.values.specs.Numbers.{is_negative}
 use Rattle.values.specs.Result.{Result}
 use Rattle.values.specs.Stops as Stops
 use Rattle.values.specs.declared.Noted.{Noted}
@@ -26,6 +27,11 @@ pub record GivesInt (r : Int) (z : ℤ) : Type 0 where
   pub value : r.value ≡ z
   pub range : IntInRange r
 
+-- a number as a natural number, or that it is negative
+abbrev pub GivesNatural : Option ℕ → ℤ → Type 0
+GivesNatural None z = is_negative z ≡ true
+GivesNatural (Some n) z = (is_negative z ≡ false) × (n ≡ nat_abs z)
+
 -- what work on numbers answers: a number with its notes, or what stops the step
 abbrev pub Number : Type 0
 Number = std.Result (Noted Int) Stop
@@ -44,14 +50,9 @@ pub record NumberAnswers (r : Number) (w : Result ℤ) : Type 0 where
   pub work : worked r ≡ w
   pub range : NumberWithin r
 
--- how many bytes the sign in front of a string takes
-unfoldable pub sign_length : List ℕ → ℕ
-sign_length s = cond (is_signed s) 1 0
-
--- v is n, or both are above the limit
-pub record Capped (v n : ℕ) : Type 0 where
-  pub same : v ≤ limit → v ≡ n
-  pub above : limit < v → limit < n
+-- n if it is at most the limit
+unfoldable pub if_small : ℕ → Option ℕ
+if_small n = then_some (leb n limit) n
 
 -- the comparison that a code stands for
 abbrev pub comparison_meaning : Comparison → Program.Comparison

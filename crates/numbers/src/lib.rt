@@ -4,11 +4,13 @@
 
 ghost use Rattle.std.specs.Prelude.{◌≡◌, ◌+◌, ◌≤◌, ◌<◌, ◌^◌, cond, pos, neg_ℤ, nat_abs, length, replicate};
 ghost use Rattle.base.specs.Current.{current, limit};
+ghost use Rattle.encoding.specs.Numerals.{biased, unbiased};
+ghost use Rattle.encoding.specs.Table.{comparison_number};
 ghost use Rattle.machine.specs.Expressions.{compared};
-ghost use Rattle.values.specs.Conversion.{digit_of, decimal, digits, is_numeric, number_of, sign_of};
+ghost use Rattle.values.specs.Conversion.{digit_of, decimal, digits, unsigned_part, is_numeric, number_of, sign_of};
 ghost use Rattle.values.specs.Numbers.{is_negative, sum, difference, product, quotient};
 ghost use Rattle.values.specs.Numbers as Numbers;
-ghost use Rattle.numbers.specs.Numbers.{IntInRange, BothInRange, GivesInt, NumberAnswers, sign_length, Capped, comparison_meaning};
+ghost use Rattle.numbers.specs.Numbers.{IntInRange, BothInRange, GivesInt, GivesNatural, NumberAnswers, if_small, comparison_meaning};
 ghost use Rattle.numbers.specs.Text.{longest_text, DigitsStored, filled_text, TextRoom, TextWritable, TextWritten};
 
 use base::LONGEST;
@@ -18,22 +20,36 @@ use values::{Noted, Stop};
 // numbers run from -LIMIT to LIMIT
 pub const LIMIT: u64 = 8_388_607;
 
+// what a number has added where a table or a state keeps it
+const BIAS: i64 = encoding::BIAS as i64;
+
 // a number of the language
-// kept: that it is in range is no ghost field: decoder makes one of any 6 bytes of a table, and an operator one that held then turns down
+// kept: that it is in range is no ghost field: unbiased makes one of any 6 bytes, of a table that need not keep its rules
+// kept: is_negative, size and negate are functions, as the operators of two numbers are: as methods they would say no more
 #[derive(Clone, Copy, PartialEq, Eq)]
 pub struct Int {
     pub value: i64,
 }
 
-// the comparisons of IF
+// the comparisons of IF, each by the number that a row of a table has for it
 #[derive(Clone, Copy, PartialEq, Eq)]
 pub enum Comparison {
-    Equal,
-    Unequal,
-    Less,
-    Greater,
-    AtMost,
-    AtLeast,
+    Equal = 1,
+    Unequal = 2,
+    Less = 3,
+    Greater = 4,
+    AtMost = 5,
+    AtLeast = 6,
+}
+
+impl Comparison {
+    // the number that a row's flag has for it
+    #[tactic(auto, unfolding(encoding::specs::Table::comparison_number))]
+    pub fn number(self) -> u8
+        ensures { result ≡ comparison_number (comparison_meaning self) }
+    {
+        self as u8
+    }
 }
 
 pub fn is_negative(z: Int) -> bool
@@ -58,7 +74,8 @@ pub fn negate(z: Int) -> Int
 }
 
 // a natural number as a number
-// kept: a function and no From, as decoder's unbias and symbols' with_bias: each asks for a bound of its number, which From doesn't
+// kept: a function and no From, as biased and unbiased: each asks for a bound of its number. No TryFrom, which would test again: decimal_of has just
+// tested what two of the three callers give, and the third gives a string's length
 pub fn int_of(n: u64) -> Int
     requires { n ≤ limit }
     ensures { GivesInt result (pos n) }
@@ -66,13 +83,42 @@ pub fn int_of(n: u64) -> Int
     Int { value: n as i64 }
 }
 
-// z if it is in range
-fn held(z: Int) -> Result<Noted<Int>, Stop>
-    requires { nat_abs z.value < 2 ^ 63 }
-    ensures { NumberAnswers result (Numbers.held current z.value) }
+// z as a natural number, unless it is negative
+pub fn natural(z: Int) -> Option<usize>
+    ensures { GivesNatural result z.value }
 {
-    if size(z) <= LIMIT {
-        Ok(Noted::plain(z))
+    if is_negative(z) {
+        None
+    } else {
+        Some(z.value.unsigned_abs() as usize)
+    }
+}
+
+// the number that z is kept as
+pub fn biased(z: Int) -> u64
+    requires { IntInRange z }
+    ensures { result ≡ biased z.value }
+{
+    (z.value + BIAS) as u64
+}
+
+// the number that is kept as n, of 6 bytes
+pub fn unbiased(n: u64) -> Int
+    requires { n < 2 ^ 48 }
+    ensures { result.value ≡ unbiased n }
+{
+    Int {
+        value: (n as i64) - BIAS,
+    }
+}
+
+// the number z if it is in range
+fn held(z: i64) -> Result<Noted<Int>, Stop>
+    requires { nat_abs z < 2 ^ 63 }
+    ensures { NumberAnswers result (Numbers.held current z) }
+{
+    if z.unsigned_abs() <= LIMIT {
+        Ok(Noted::plain(Int { value: z }))
     } else {
         Err(Stop::OutOfRange)
     }
@@ -82,27 +128,21 @@ pub fn add(a: Int, b: Int) -> Result<Noted<Int>, Stop>
     requires { BothInRange a b }
     ensures { NumberAnswers result (sum current a.value b.value) }
 {
-    held(Int {
-        value: a.value + b.value,
-    })
+    held(a.value + b.value)
 }
 
 pub fn subtract(a: Int, b: Int) -> Result<Noted<Int>, Stop>
     requires { BothInRange a b }
     ensures { NumberAnswers result (difference current a.value b.value) }
 {
-    held(Int {
-        value: a.value - b.value,
-    })
+    held(a.value - b.value)
 }
 
 pub fn multiply(a: Int, b: Int) -> Result<Noted<Int>, Stop>
     requires { BothInRange a b }
     ensures { NumberAnswers result (product current a.value b.value) }
 {
-    held(Int {
-        value: a.value * b.value,
-    })
+    held(a.value * b.value)
 }
 
 // the fraction is dropped
@@ -113,9 +153,7 @@ pub fn divide(a: Int, b: Int) -> Result<Noted<Int>, Stop>
     if b.value == 0 {
         return Err(Stop::ZeroDivisor);
     }
-    held(Int {
-        value: a.value / b.value,
-    })
+    held(a.value / b.value)
 }
 
 pub fn compare(c: Comparison, a: Int, b: Int) -> bool
@@ -131,17 +169,18 @@ pub fn compare(c: Comparison, a: Int, b: Int) -> bool
     }
 }
 
-// 1 if a sign stands in front, else 0
-fn sign_length(s: &[u8]) -> usize
-    ensures { result ≡ sign_length s.now }
+// what stands behind the sign, if there is one in front
+fn unsigned_part(s: &[u8]) -> &[u8]
+    ensures { result.now ≡ unsigned_part s.now }
 {
-    usize::from(s.starts_with(b"+") || s.starts_with(b"-"))
+    let signed = s.starts_with(b"+") || s.starts_with(b"-");
+    &s[usize::from(signed)..]
 }
 
 pub fn is_numeric(s: &[u8]) -> bool
     ensures { result ≡ is_numeric s.now }
 {
-    let digits = &s[sign_length(s)..];
+    let digits = unsigned_part(s);
     !digits.is_empty() && digits.iter().all(|b| is_digit_or_blank(*b))
 }
 
@@ -152,18 +191,18 @@ fn digit_of(b: u8) -> u64
     if b < b'0' { 0 } else { u64::from(b - b'0') }
 }
 
-// the value of the digits, or one that is above LIMIT if that is
-pub fn decimal_of(digits: &[u8]) -> u64
-    ensures { Capped result (decimal 0 digits.now) }
+// the value of the digits, if it is at most LIMIT
+pub fn decimal_of(digits: &[u8]) -> Option<u64>
+    ensures { result ≡ if_small (decimal 0 digits.now) }
 {
     let mut v = 0;
     for b in digits {
         v = v * 10 + digit_of(*b);
         if LIMIT < v {
-            return v;
+            return None;
         }
     }
-    v
+    Some(v)
 }
 
 pub fn number_of(s: &[u8]) -> Result<Noted<Int>, Stop>
@@ -175,17 +214,12 @@ pub fn number_of(s: &[u8]) -> Result<Noted<Int>, Stop>
             notes: 1,
         });
     }
-    let v = decimal_of(&s[sign_length(s)..]);
-    if LIMIT < v {
-        return Err(Stop::OutOfRange);
-    }
-    if s[0] == b'-' {
-        return Ok(Noted::plain(negate(int_of(v))));
-    }
-    Ok(Noted::plain(int_of(v)))
+    let z = int_of(decimal_of(unsigned_part(s)).ok_or(Stop::OutOfRange)?);
+    Ok(Noted::plain(if s[0] == b'-' { negate(z) } else { z }))
 }
 
 // how many digits v has
+// kept: recursive, as put_digits, which document 01 has so (F10): digits is defined by the quotient; by checked_ilog10 it would want a law more
 fn digit_count(v: u64) -> usize
     ensures { result ≡ length (digits v) }
 {

@@ -42,7 +42,7 @@ use Rattle.card_reader.specs.Keys.{key_of, is_key_byte}
 use Rattle.card_reader.specs.Letters.{letters, letters_on, letters-past}
 use Rattle.lexer.specs.Laws.{name-first, name-is, name_broken, name_keys_lem}
 use Rattle.lexer.specs.Places.{NameAt}
-use Rattle.numeric_parser.specs.Operands.{behind_mark, Onward, cursor_moved, Skips, ReaderReady, Noting, Gets, NameParsed, NameRead}
+use Rattle.numeric_parser.specs.Operands.{behind_word, behind_mark, Onward, cursor_moved, Skips, ReaderReady, Noting, Gets, NameParsed, NameRead}
 use Rattle.encoding.specs.Meaning.{cell_meaning}
 use Rattle.numeric_parser.specs.Operands.{PlaceRead, OperandRead, placed_in}
 use Rattle.numeric_parser.specs.Operands.{ConstantRead, length_cell, InText, celled_at, behind_parenthesis}
@@ -223,30 +223,40 @@ ready_moved {text} {c = c} w ready m e =
 pub text_here : {text : List ℕ} {c : Cursor} → ReaderReady text c → InText text c
 text_here ready = (ready.inside, ready.text_size)
 
--- what an answer of `marked` says
+-- what an answer of `behind_word` and one of `marked` says
 abbrev cursor_or : Cursor → Option Cursor → Cursor
 cursor_or c (Some d) = d
 cursor_or c None = c
 
+module _ (text w : List ℕ) (c : Cursor) where
+  pub word_passed : {d : Cursor} → Some d ≡ behind_word text w c → (begins w (drop c.at text) ≡ true) × (d ≡ cursor_moved c (length w))
+  word_passed {d} e =
+      test_cases
+      (λ b.
+      begins w (drop c.at text) ≡ b → Some d ≡ elim b [ true ↦ Some (cursor_moved c (length w)) | false ↦ None ]
+      → (begins w (drop c.at text) ≡ true) × (d ≡ cursor_moved c (length w)))
+      (begins w (drop c.at text)) (λ _ h g. (h, ap (cursor_or c) g)) (λ _ h g. absurd (false≢true (sym (ap is_some g)))) refl e
+
+  pub word_none : None ≡ behind_word text w c → begins w (drop c.at text) ≡ false
+  word_none e =
+      test_cases
+      (λ b.
+      begins w (drop c.at text) ≡ b → None ≡ elim b [ true ↦ Some (cursor_moved c (length w)) | false ↦ None ]
+      → begins w (drop c.at text) ≡ false)
+      (begins w (drop c.at text)) (λ _ h g. absurd (false≢true (ap is_some g))) (λ _ h g. h) refl e
+
+  pub word_ready : {d : Cursor} → ReaderReady text c → Some d ≡ behind_word text w c → ReaderReady text d
+  word_ready ready e = let p = word_passed e in ready_moved w ready p.1 p.0
+
 module _ (text : List ℕ) (w : ℕ) (c : Cursor) where
   pub mark_passed : {d : Cursor} → Some d ≡ behind_mark text w c → (begins (w ∷ []) (drop c.at text) ≡ true) × (d ≡ cursor_moved c 1)
-  mark_passed {d} e =
-      test_cases
-      (λ b.
-      begins (w ∷ []) (drop c.at text) ≡ b → Some d ≡ elim b [ true ↦ Some (cursor_moved c 1) | false ↦ None ]
-      → (begins (w ∷ []) (drop c.at text) ≡ true) × (d ≡ cursor_moved c 1))
-      (begins (w ∷ []) (drop c.at text)) (λ _ h g. (h, ap (cursor_or c) g)) (λ _ h g. absurd (false≢true (sym (ap is_some g)))) refl e
+  mark_passed = word_passed text (w ∷ []) c
 
   pub mark_none : None ≡ behind_mark text w c → begins (w ∷ []) (drop c.at text) ≡ false
-  mark_none e =
-      test_cases
-      (λ b.
-      begins (w ∷ []) (drop c.at text) ≡ b → None ≡ elim b [ true ↦ Some (cursor_moved c 1) | false ↦ None ]
-      → begins (w ∷ []) (drop c.at text) ≡ false)
-      (begins (w ∷ []) (drop c.at text)) (λ _ h g. absurd (false≢true (ap is_some g))) (λ _ h g. h) refl e
+  mark_none = word_none text (w ∷ []) c
 
   pub mark_ready : {d : Cursor} → ReaderReady text c → Some d ≡ behind_mark text w c → ReaderReady text d
-  mark_ready ready e = let p = mark_passed e in ready_moved (w ∷ []) ready p.1 p.0
+  mark_ready = word_ready text (w ∷ []) c
 
 -- there is room for the name at the cursor
 pub name_notable : {text : List ℕ} {c : Cursor} {n : ℕ} → ReaderReady text c → NameAt text c.at n → 1 ≤ n → c.names < names_room

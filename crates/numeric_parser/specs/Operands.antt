@@ -11,7 +11,7 @@ use Rattle.syntax.specs.Numeric.{called_or_number, plain_factor}
 use Rattle.syntax.specs.Program.{Length, constantly, numbered}
 use Rattle.syntax.specs.Parsing.{Parsed, got, broken, succeed}
 use Rattle.syntax.specs.Lexemes as Words
-use Rattle.syntax.specs.Lexemes.{unsigned, number_name, string_name, bound, part_name}
+use Rattle.syntax.specs.Lexemes.{unsigned, signed, number_name, string_name, bound, part_name}
 use Rattle.symbols.specs.Bounds.{far_enough}
 use Rattle.symbols.specs.Clauses.{names_room}
 use Rattle.symbols.specs.Entries.{NameEntry, entry, role_of, mentions_in}
@@ -127,6 +127,10 @@ abbrev pub ConstantRead : (text : List ℕ) (m : Mentioned) (c : Cursor) (kind p
 ConstantRead text m c kind place r =
     OperandRead (λ v. Table.cell kind place (biased (pos v))) text m c (unsigned current (drop c.at text)) r m
 
+abbrev pub SignedRead : (text : List ℕ) (m : Mentioned) (c : Cursor) (kind place : ℕ) → Option (Cell × Cursor) → Type 0
+SignedRead text m c kind place r =
+    OperandRead (λ z. Table.cell kind place (biased z)) text m c (signed current (drop c.at text)) r m
+
 -- a cell with a length: of a kind with the constant, or of the next one with the place of the number
 unfoldable pub length_cell : (kind place : ℕ) → Length → Table.Cell
 length_cell kind place (constantly z) = Table.cell kind place (biased z)
@@ -158,9 +162,12 @@ placed_in kind value None = None
 abbrev pub InText : List ℕ → Cursor → Type 0
 InText text c = (c.at ≤ length text) × (length text ≤ longest_text)
 
--- the cursor behind a mark, if it stands there
+-- the cursor behind a word, if it stands there, and behind a mark, a word of one byte
+abbrev pub behind_word : List ℕ → (word : List ℕ) → Cursor → Option Cursor
+behind_word text word c = elim (begins word (drop c.at text)) [ true ↦ Some (cursor_moved c (length word)) | false ↦ None ]
+
 abbrev pub behind_mark : List ℕ → (mark : ℕ) → Cursor → Option Cursor
-behind_mark text mark c = elim (begins (mark ∷ []) (drop c.at text)) [ true ↦ Some (cursor_moved c 1) | false ↦ None ]
+behind_mark text mark = behind_word text (mark ∷ [])
 
 -- a cell with a cursor, if there is one
 abbrev pub celled_at : Cell → Option Cursor → Option (Cell × Cursor)

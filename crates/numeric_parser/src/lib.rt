@@ -22,7 +22,7 @@ use symbols::{Cursor, Mentioned, put_item};
 
 // a mark whose item waits for what stands behind it: an operator, or the sign of an expression
 // kept: decoder has Operator and Sign apart, since in a run one takes two numbers, the other one; here all six are written alike, by their kinds
-#[derive(Clone, Copy, PartialEq, Eq)]
+#[derive(Clone, Copy)]
 pub enum Mark {
     Plus,
     Minus,
@@ -145,7 +145,8 @@ pub fn expression(
 }
 
 // a term: each operator is written behind the factor it stands before
-// kept: a term is read as an expression is, but each reads the other; one function for both would ask at every turn which of the two it is
+// kept: a term is read as an expression is, but each reads the other; one function for both would take the mark that waits at first, two marks with
+// their bytes, and what reads an operand: a closure that writes table and names, of which no contract says what it leaves, or a test at every turn
 #[cycle(expression_factor_term)]
 fn term(
     text: &[u8],
@@ -187,12 +188,12 @@ fn factor(
     ensures { FactorRead text.now known.now table.old mentioned.old c depth result
         table.new mentioned.new }
 {
-    if !stands_at(text, c.at, b'(') {
+    let Some(open) = marked(text, c, b'(') else {
         return write_operand(text, known, table, mentioned, c);
-    }
+    };
     if DEEPEST <= depth {
         return None;
     }
-    let d = expression(text, known, table, mentioned, skip(c, 1), depth + 1)?;
+    let d = expression(text, known, table, mentioned, open, depth + 1)?;
     marked(text, d, b')')
 }

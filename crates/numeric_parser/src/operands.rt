@@ -1,22 +1,22 @@
-// Operands: names, constants, LENGTH and NUMBER, each read as a cell of the table.
+// Operands: names, constants, LENGTH and NUMBER, each read as a cell of the table; and what all parsers use: words and marks passed, ranges packed.
 // Assumes nothing.
-// kept: text, names known and mentioned, table and cursor are passed one by one, and ReaderReady is asked of text and cursor. In one struct with
-// ReaderReady as its ghost field each function has to promise that the text stays, a clause for each that goes, and the proofs of this crate grow by
-// half, or by three quarters where the struct is lent as `&mut`: tried, in four forms
+// kept: text, names, cursor and in lib.rt the table are passed one by one, with ReaderReady or InText as a clause. In one struct with ReaderReady
+// as a ghost field each function has to promise that the text stays, and proofs grow by half, by three quarters with `&mut`: tried, in four forms
 ghost use Rattle.std.specs.Prelude.{Some, ◌≡◌, ◌+◌, ◌≤◌, ◌<◌};
-ghost use Rattle.numeric_parser.specs.Operands.{ReaderReady, cursor_moved, NameRead, NumberRead, StringRead, ConstantRead};
-ghost use Rattle.numeric_parser.specs.Operands.{InText, BoundRead, PartRead, behind_mark, behind_parenthesis, CalledRead, PlainRead};
+ghost use Rattle.encoding.specs.Table.{range_value};
+ghost use Rattle.numeric_parser.specs.Operands.{ReaderReady, cursor_moved, NameRead, NumberRead, StringRead, ConstantRead, SignedRead};
+ghost use Rattle.numeric_parser.specs.Operands.{InText, BoundRead, PartRead, behind_word, behind_mark, behind_parenthesis, CalledRead, PlainRead};
 ghost use Rattle.symbols.specs.Bounds.{far_enough};
 
 use classes::is_digit;
-use encoding::cell_kinds;
 use encoding::cells::Cell;
-use lexer::constants::unsigned;
+use encoding::{RANGE_STEP, cell_kinds};
+use lexer::constants::{signed, unsigned};
 use lexer::names::{key_of, name_length};
 use lexer::{begins_at, byte_at, stands_at};
 use symbols::known::Known;
 use symbols::tags::{Role, Tag};
-use symbols::{BIAS, Cursor, Mentioned};
+use symbols::{BIAS, Cursor, Mentioned, with_bias};
 
 // the cursor so many bytes further
 pub fn skip(c: Cursor, n: usize) -> Cursor
@@ -26,12 +26,32 @@ pub fn skip(c: Cursor, n: usize) -> Cursor
     Cursor { at: c.at + n, ..c }
 }
 
+// the cursor behind a word, if it stands here
+pub fn behind_word(text: &[u8], c: Cursor, word: &[u8]) -> Option<Cursor>
+    requires { InText text.now c }
+    ensures { result ≡ behind_word text.now word.now c }
+{
+    if !begins_at(text, c.at, word) {
+        return None;
+    }
+    Some(skip(c, word.len()))
+}
+
 // the cursor behind a mark, if it stands here
 pub fn marked(text: &[u8], c: Cursor, mark: u8) -> Option<Cursor>
     requires { InText text.now c }
     ensures { result ≡ behind_mark text.now mark c }
 {
     stands_at(text, c.at, mark).then_some(skip(c, 1))
+}
+
+// a range as its cell has it: from a place on so many, and so many more behind them
+#[tactic(auto, unfolding(encoding::specs::Table::range_value))]
+pub fn range_value(from: usize, count: usize, more: usize) -> usize
+    requires { (from ≤ far_enough) × ((count ≤ far_enough) × (more < 65_536)) }
+    ensures { result ≡ range_value from count more }
+{
+    from + RANGE_STEP * (count + RANGE_STEP * more)
 }
 
 // a name, noted with a tag
@@ -92,7 +112,20 @@ fn constant(text: &[u8], c: Cursor, kind: u8, place: u8) -> Option<(Cell, Cursor
     Some((Cell { kind, place, value }, skip(c, number.next - c.at)))
 }
 
+// the same of a constant that may have a sign
+// kept: beside constant, whose number is of digits alone and no Int: it takes the bias as it stands
+pub fn signed_constant(text: &[u8], c: Cursor, kind: u8, place: u8) -> Option<(Cell, Cursor)>
+    requires { InText text.now c }
+    ensures { (m : Mentioned) → ReaderReady text.now c → SignedRead text.now m c kind place result }
+{
+    let number = signed(text, c.at)?;
+    let value = with_bias(number.value);
+    Some((Cell { kind, place, value }, skip(c, number.next - c.at)))
+}
+
 // the n of S$n, in the cell of this kind and place, or for a number of the next kind
+// kept: kinds are reckoned, here and in read_part: that of a whole string and the two of its first bytes stand in a row by the definition too, which
+// takes the first (part_cell), as decoder's part_of does
 #[tactic(auto, using(crate::specs::OperandLaws::bound_read))]
 pub fn read_bound(
     text: &[u8],
@@ -133,8 +166,8 @@ pub fn read_part(
     ensures { PartRead text.now known.now mentioned.old c kind role result mentioned.new }
 {
     let (place, d) = read_string(text, known, mentioned, c, role)?;
-    if stands_at(text, d.at, b'$') {
-        return read_bound(text, known, mentioned, skip(d, 1), kind + 1, place);
+    if let Some(e) = marked(text, d, b'$') {
+        return read_bound(text, known, mentioned, e, kind + 1, place);
     }
     let value = 0;
     Some((Cell { kind, place, value }, d))
@@ -160,14 +193,13 @@ pub fn read_called(
     ensures { CalledRead text.now known.now mentioned.old c result mentioned.new }
 {
     let value = 0;
-    if begins_at(text, c.at, b"LENGTH(") {
-        let (place, d) = read_string(text, known, mentioned, skip(c, 7), None)?;
+    if let Some(open) = behind_word(text, c, b"LENGTH(") {
+        let (place, d) = read_string(text, known, mentioned, open, None)?;
         let kind = cell_kinds::LENGTH;
         return closed(text, Cell { kind, place, value }, d);
     }
-    if begins_at(text, c.at, b"NUMBER(") {
-        let kind = cell_kinds::NUMBER_OF;
-        let (cell, d) = read_part(text, known, mentioned, skip(c, 7), kind, None)?;
+    if let Some(open) = behind_word(text, c, b"NUMBER(") {
+        let (cell, d) = read_part(text, known, mentioned, open, cell_kinds::NUMBER_OF, None)?;
         return closed(text, cell, d);
     }
     let (place, d) = read_number(text, known, mentioned, c)?;

@@ -17,8 +17,9 @@ const LONGEST_NUMBER: usize = 21;
 pub const LONGEST_NUMBERS: usize = 3 * LONGEST_NUMBER + 1;
 
 // bytes, from at on; where they end. Here and below, what stands behind them may change
-// kept: bytes at a place of the caller's buffer, as each contract says; Display writes to a Formatter. So too numbers::put_digits, batch::word
-// kept: place and output come apart: a writer that holds the output as `&mut` takes a clause more in every contract, that it still holds that one
+// kept: bytes at a place of the caller's buffer, as each contract says; Display writes to a Formatter. So too numbers::put_digits
+// kept: place and output come apart: a writer that holds the output as `&mut` takes a clause more in every contract, that it still holds that one;
+// and of a part, `&mut out[at..]`, each function would answer a length, which its caller adds to the place again
 pub fn put(v: &[u8], at: usize, out: &mut [u8]) -> usize
     requires { at + length v.now ≤ length out.old }
     ensures { Put out.old out.new at v.now result }

@@ -5,7 +5,7 @@ ghost use Rattle.std.specs.Prelude.{◌≡◌};
 ghost use Rattle.register.specs.Refusals.{number_of, refusal_number};
 
 // the most lines, and the bytes of a register, of its header and of a line's slot
-// kept: keys and worths of all lines are arrays of so many, since memory is fixed (crate base)
+// kept: keys and worths of a register's lines are lists of at most so many, since memory is fixed (crate base)
 pub const LINES: usize = 256;
 
 pub const SIZE: usize = 8192;
@@ -14,13 +14,8 @@ pub const HEADER: usize = 1024;
 
 pub const SLOT: usize = 28;
 
-// the bytes of a currency, and the fields of a line: of one held before the register is opened, and of one held then
+// the bytes of a currency
 pub const CURRENCY: usize = 3;
-
-// kept: how many fields, by which document 02 tells lines apart (is_line has four, is_record five); an enum would be two names for them
-pub const OLD_FIELDS: usize = 4;
-
-pub const FIELDS: usize = 5;
 
 // the bytes that a line is handed out in
 // kept: the caller's array, by the C interface
@@ -28,7 +23,7 @@ pub const LINE_SIZE: usize = 32;
 
 // Why a call is turned down: the buffer is too small, against its rules or not opened; the output can't hold the report; a line breaks its form; its
 // contract is held already; all places are taken; the house currency breaks its form.
-#[derive(Clone, Copy, Debug, PartialEq, Eq)]
+#[derive(Clone, Copy, PartialEq, Eq)]
 pub enum Refusal {
     BadBuffer = 14,
     OutputFull = 21,

@@ -114,6 +114,9 @@ module _ (buffer : List ℕ) (n : ℕ) (u : Unopened buffer n) (c : List ℕ) (i
   pub none_written : WrittenTo buffer c 0 buffer
   none_written = record { is = sym (with-same buffer u.keeps); size = refl }
 
+  pub place_few : (k : ℕ) → k < n → k < most_lines
+  place_few k h = omega (arith, s.few, u.count)
+
   -- the slot of each of its lines is inside the buffer
   pub slot_inside : (k : ℕ) → k < n → slot_at k + slot_size ≤ length buffer
   slot_inside k h = omega (arith, sound_size buffer u.keeps, s.few, u.count)
@@ -180,25 +183,26 @@ module _ (buffer : List ℕ) (n : ℕ) (u : Unopened buffer n) (c : List ℕ) (i
           ap₂ {C = List ℕ} (λ p b. take slot_size (drop p b)) (sym place_is) (e.is ∙ ap (with_register buffer) next-is)
           ∙ slot-here buffer r.house small done rest line c good (line_short line form) (currency_size c is)
 
-      pub size_is : (m : ℕ) → Trimmed (take (slot_at k + slot_size - slot_at k) (drop (slot_at k) so_far)) m → m ≡ length line
-      size_is m t =
+      pub size_is : (at m : ℕ) → at ≡ slot_at k → Trimmed (take (at + slot_size - at) (drop at so_far)) m → m ≡ length line
+      size_is at m here t =
           let slot = cell_of slot_size line in
           let ok = line-form line form in
-          trim_size has_form (λ l g. g) slot m (subst (λ x. Trimmed x m) (stretch_cut so_far (slot_at k) slot_size ∙ slot_is) t)
+          let same = stretch_cut so_far at slot_size ∙ ap (λ p. take slot_size (drop p so_far)) here ∙ slot_is in
+          trim_size has_form (λ l g. g) slot m (subst (λ x. Trimmed x m) same t)
           (cell_sound has_form slot_size line (line_text line ok) ok)
           ∙ ap length (cell-read slot_size line (line_text line ok))
 
-      pub write_room : (m : ℕ) → m ≡ length line → slot_at k + m + length c + 1 ≤ length so_far
-      write_room m at =
-          omega (arith, at, e.size, line_short line form, currency_size c is, sound_size buffer u.keeps, s.few, u.count)
+      pub write_room : (at m : ℕ) → at ≡ slot_at k → m ≡ length line → at + m + length c + 1 ≤ length so_far
+      write_room at m here whole =
+          omega (arith, here, whole, e.size, line_short line form, currency_size c is, sound_size buffer u.keeps, s.few, u.count)
 
-      pub written_next : (m : ℕ) → m ≡ length line → (left : List ℕ) → left ≡ splice so_far (slot_at k + m) (44 ∷ c) → length left ≡ length so_far
-          → WrittenTo buffer c (k + 1) left
-      written_next m at left put same =
+      pub written_next : (at m : ℕ) → at ≡ slot_at k → m ≡ length line → (left : List ℕ) → left ≡ splice so_far (at + m) (44 ∷ c)
+          → length left ≡ length so_far → WrittenTo buffer c (k + 1) left
+      written_next at m here whole left put same =
           record {
             is =
                 put
-                ∙ ap₂ {C = List ℕ} (λ b p. splice b p (44 ∷ c)) (e.is ∙ ap (with_register buffer) next-is) (ap₂ {C = ℕ} ◌+◌ (sym place_is) at)
+                ∙ ap₂ {C = List ℕ} (λ b p. splice b p (44 ∷ c)) (e.is ∙ ap (with_register buffer) next-is) (ap₂ {C = ℕ} ◌+◌ (here ∙ sym place_is) whole)
                 ∙ written-here buffer r.house small done rest line c good (line_short line form) (currency_size c is)
                 ∙ ap (with_register buffer) next-written;
             size = same ∙ e.size;
@@ -244,13 +248,13 @@ module _ (buffer c : List ℕ) (is : is_currency c ≡ true) where
   unfolding register_turned_down
   open_broken_gets e = sym (open_refused buffer c is e)
 
-  pub opened_again_gets : (n : ℕ) (keys left : List ℕ) → RegisterReady buffer n keys → left ≡ splice buffer 0 c → buffer_back 0 left ≡ open_call buffer c
-  opened_again_gets n keys left ready put =
-      let s = read_sound buffer ready.counted.keeps in
+  pub opened_again_gets : (keys left : List ℕ) → RegisterReady buffer keys → left ≡ splice buffer 0 c → buffer_back 0 left ≡ open_call buffer c
+  opened_again_gets keys left ready put =
+      let s = read_sound buffer ready.keeps in
       ap (buffer_back 0)
-      (put ∙ ap (λ b. splice b 0 c) (sym (with-same buffer ready.counted.keeps)) ∙ house_told buffer (register_in buffer) c s.home is
-      ∙ ap (with_register buffer) (sym (opened_again (register_in buffer) c ready.counted.is_open_lem)))
-      ∙ sym (open_does buffer c is ready.counted.keeps)
+      (put ∙ ap (λ b. splice b 0 c) (sym (with-same buffer ready.keeps)) ∙ house_told buffer (register_in buffer) c s.home is
+      ∙ ap (with_register buffer) (sym (opened_again (register_in buffer) c ready.is_open_lem)))
+      ∙ sym (open_does buffer c is ready.keeps)
 
   module _ (n : ℕ) (u : Unopened buffer n) (between : List ℕ) (w : WrittenOut buffer c between) where
     pub opened_old_gets : (left : List ℕ) → left ≡ splice between 0 c → buffer_back 0 left ≡ open_call buffer c

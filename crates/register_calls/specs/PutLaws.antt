@@ -1,8 +1,8 @@
 -- A line stored in its slot, a line handed out, and the number for a line offered. Assumes nothing.
-use Rattle.std.specs.Prelude.{Bool, true, false, cond, ◌≡◌, eqb, leb, take}
+use Rattle.std.specs.Prelude.{Bool, true, false, cond, ◌≡◌, refl, eqb, leb, take}
 use mathlib.Core.List.{List, [], ◌∷◌, ◌++◌, append_assoc, append-nil}
 use Rattle.std.proofs.Math.Path.{sym, ap, ap₂}
-use Rattle.std.proofs.Common.{drop-drop, subst, ◌∙◌, zero-add, take-append-drop, length-take-le, take-take, eq-eqb, eqb-true, le-leb, leb-true, ne_eqb}
+use Rattle.std.proofs.Common.{drop-drop, subst, ◌∙◌, zero-add, take-append-drop, length-take-le, take-take, eq-eqb, eqb-true, le-leb, leb-true}
 use Prim.Native.Nat.{ℕ, ◌+◌, ◌*◌, ◌-◌, ◌≤◌, ◌<◌}
 use native.Mathlib.Omega.{arith}
 use Rattle.std.proofs.Math.ListN.{get_or-eq_default, length, drop, replicate, length-append, replicate-append-replicate}
@@ -12,9 +12,14 @@ use Rattle.std.specs.Prelude.{Option, Some, None, Result, Ok, Err}
 use Rattle.register.specs.Refusals.{number_of, refusal_number}
 use Rattle.register.specs.declared.Refusal.{Refusal}
 use Rattle.register.specs.declared.Refusal.TheVariants.{BadBuffer, OutputFull, BadLine, ContractHeld, Full, BadCurrency}
+use denote.Enum.Bare.{sameb}
+use Rattle.std.specs.Borrow.{Bor}
+use Rattle.register_lines.specs.contracts.Fields.{the_type}
+use Rattle.register_lines.specs.declared.Fields.{Fields}
+use Rattle.register_lines.specs.declared.Fields.TheVariants.{Four, Five}
 use Rattle.register_lines.specs.declared.Form.{Form}
 use borrow.Rule.Slice.PartMut.{put_mid}
-use Rattle.base.specs.Choice.{same_truth, test_cases}
+use Rattle.base.specs.Choice.{same_truth}
 use Rattle.base.specs.ListLaws.{drop-zeros}
 use Rattle.base.specs.Lists.{among}
 use Rattle.cards.specs.Bytes.{comma, is_name_byte}
@@ -33,9 +38,10 @@ use Rattle.register.specs.RegisterLaws.{OfferTaken, all_forms, house_open, store
 use Rattle.register_lines.specs.FieldLaws.{contract_size, count_none, four-fields}
 use Rattle.register_lines.specs.Fields.{FormFound, RunOfBytes, field_count, is_count}
 use Rattle.register_reading.specs.KeyLaws.{key-read, keys_hold}
-use Rattle.register_reading.specs.ReadLaws.{opened_ready, here-form, opened_refused}
-use Rattle.register_reading.specs.Reading.{OpenedRead, Placed, RegisterReady, key_in, slot_at}
-use Rattle.register_calls.specs.Putting.{OfferJudged, Keyed, stored_by}
+use Rattle.register_reading.specs.ReadLaws.{here-form, keys_refused, opened_refused, placed_below}
+use Rattle.register_reading.specs.Opened.{OpenedRead}
+use Rattle.register_reading.specs.Reading.{KeysRead, LinesCounted, RegisterReady, key_in, slot_at}
+use Rattle.register_calls.specs.Putting.{LineHeld, LineHolds, OfferJudged, Keyed, stored_by}
 
 refusal_some : (refusal : Refusal) → ¬ (refusal_number refusal ≡ 0)
 refusal_some BadBuffer e = omega arith
@@ -108,67 +114,65 @@ module _ (buffer : List ℕ) (e : buffer_keeps buffer ≡ true) (line : List ℕ
       ∙ ap (λ l. (header_image r ++ l) ++ rest) (slots_put r.lines line fits room)
 
 -- a line with the house currency behind it or without, as the number of its fields tells
-pub stored_is : (fields : ℕ) (house line : List ℕ) → field_count line ≡ Some fields → stored_by fields house line ≡ stored house line
+pub stored_is : (fields : Fields) (house line : List ℕ) → field_count line ≡ Some fields → stored_by fields house line ≡ stored house line
 unfolding stored_by stored is_count
-stored_is fields house line e = ap (λ t. cond t (with_currency house line) line) (sym (ap (is_count 4) e) ∙ four-fields line)
+stored_is Four house line e = ap (λ t. cond t (with_currency house line) line) (sym (ap (is_count Four) e) ∙ four-fields line)
+stored_is Five house line e = ap (λ t. cond t (with_currency house line) line) (sym (ap (is_count Four) e) ∙ four-fields line)
 
-pub stored-four : (fields : ℕ) (house line : List ℕ) → fields ≡ 4 → stored_by fields house line ≡ line ++ (44 ∷ house)
-unfolding stored_by with_currency comma
-stored-four fields house line e = rw (eq-eqb fields 4 e)
+-- whether the house currency is put
+pub is_four : (fields : Fields) → sameb the_type fields Four ≡ true → fields ≡ Four
+is_four Four e = refl
+is_four Five e = cc
 
-pub stored_other : (fields : ℕ) (house line : List ℕ) → ¬ (fields ≡ 4) → stored_by fields house line ≡ line
-unfolding stored_by
-stored_other fields house line n = rw (ne_eqb fields 4 n)
+pub is_five : (fields : Fields) → sameb the_type fields Four ≡ false → fields ≡ Five
+is_five Four e = cc
+is_five Five e = refl
 
 -- what putting a line, and a comma and the house currency behind it, comes to
-module _ (buffer line : List ℕ) (at fields : ℕ) where
+module _ (buffer line : List ℕ) (at : ℕ) where
   abbrev house : List ℕ
   house = take 3 buffer
 
-  pub put_other : ¬ (fields ≡ 4) → splice buffer at line ≡ splice buffer at (stored_by fields house line)
-  put_other n = ap (splice buffer at) (sym (stored_other fields house line n))
-
-  module _ (low : 3 ≤ at) (room : at + length (stored_by fields house line) ≤ length buffer) where
+  module _ (fields : Fields) (room : at + length (stored_by fields house line) ≤ length buffer) where
     pub room_any : at + length line ≤ length buffer
     unfolding stored_by with_currency comma
-    room_any =
-        test_cases (λ t. at + length (cond t (with_currency house line) line) ≤ length buffer → at + length line ≤ length buffer) (eqb fields 4)
-        (λ _ h. omega (arith, h, length-append line (44 ∷ house))) (λ _ h. h) room
+    room_any = any fields room
+      where
+        any : (f : Fields) → at + length (stored_by f house line) ≤ length buffer → at + length line ≤ length buffer
+        any Four h = omega (arith, h, length-append line (44 ∷ house))
+        any Five h = h
 
-    pub front_room : 3 ≤ length buffer
-    front_room = omega (arith, low, room_any)
+  pub put_five : splice buffer at line ≡ splice buffer at (stored_by Five house line)
+  unfolding stored_by
+  put_five = refl
 
-  module _ (low : 3 ≤ at) (room : at + length (stored_by fields house line) ≤ length buffer) (four : fields ≡ 4) where
+  module _ (low : 3 ≤ at) (room : at + length (stored_by Four house line) ≤ length buffer) where
+    room_line : at + length line ≤ length buffer
+    room_line = room_any Four room
+
     pub room_four : at + length line + 4 ≤ length buffer
-    room_four =
-        omega (
-          arith,
-          room,
-          ap length (stored-four fields house line four),
-          length-append line (44 ∷ house),
-          length-take-le 3 buffer
-              (front_room low room),
-        )
+    unfolding stored_by with_currency comma
+    room_four = omega (arith, room, length-append line (44 ∷ house), length-take-le 3 buffer (omega (arith, low, room_line)))
 
     -- the house currency is still there behind the line put
-    pub house_stays : take 3 (splice buffer at line) ≡ house
+    house_stays : take 3 (splice buffer at line) ≡ house
     house_stays =
-        sym (take-take 3 at (splice buffer at line) low) ∙ ap (take 3) (take-splice buffer at line (omega (arith, room_any low room)))
+        sym (take-take 3 at (splice buffer at line) low) ∙ ap (take 3) (take-splice buffer at line (omega (arith, room_line)))
         ∙ take-take 3 at buffer low
 
     pub put_four : (copy : List ℕ) → copy ≡ take 3 (splice buffer at line)
-        → splice (splice buffer at line) (at + length line) (44 ∷ copy) ≡ splice buffer at (stored_by fields house line)
+        → splice (splice buffer at line) (at + length line) (44 ∷ copy) ≡ splice buffer at (stored_by Four house line)
+    unfolding stored_by with_currency comma
     put_four copy is =
         ap (λ c. splice (splice buffer at line) (at + length line) (44 ∷ c)) (is ∙ house_stays)
-        ∙ splice-behind buffer at line (44 ∷ house) (omega (arith, room_any low room))
-        ∙ ap (splice buffer at) (sym (stored-four fields house line four))
+        ∙ splice-behind buffer at line (44 ∷ house) (omega (arith, room_line))
 
-fields_in : Result Form Refusal → Option ℕ
+fields_in : Result Form Refusal → Option Fields
 fields_in (Ok form) = Some form.fields
 fields_in (Err refusal) = None
 
 -- The number for a line offered, by what the code asks: its form, whether its key is among the others, whether all places are taken
-module _ (line keys : List ℕ) (contract key : ℕ) (run : RunOfBytes is_name_byte line 0 contract)
+module _ (line keys : List ℕ) (contract key : ℕ) (run : RunOfBytes is_name_byte line contract)
     (k : key ≡ key_of (without_blanks (take 8 (take contract line)))) where
   held-is : (held : Lines) → Keyed held keys → has_form line ≡ true → among key keys ≡ is_held held (contract_of line)
   held-is held r form =
@@ -188,22 +192,22 @@ module _ (line keys : List ℕ) (contract key : ℕ) (run : RunOfBytes is_name_b
       record { judged = λ held r. rw (form, sym (held-is held r form) ∙ found); counted = λ f e. cc }
 
   module _ (form : has_form line ≡ true) (other : among key keys ≡ false) where
-    pub full_judged : length keys ≡ most_lines → OfferJudged line keys (Err Full)
+    pub full_judged : eqb (length keys) most_lines ≡ true → OfferJudged line keys (Err Full)
     unfolding offer_number lowest_of
     full_judged e =
-        record { judged = λ held r. rw (form, sym (held-is held r form) ∙ other, sym (full_is held r) ∙ eq-eqb (length keys) most_lines e); counted = λ f k. cc }
+        record { judged = λ held r. rw (form, sym (held-is held r form) ∙ other, sym (full_is held r) ∙ e); counted = λ f k. cc }
 
-    pub taken_judged : (found : Form) → field_count line ≡ Some found.fields → ¬ (length keys ≡ most_lines) → OfferJudged line keys (Ok found)
+    pub taken_judged : (found : Form) → field_count line ≡ Some found.fields → eqb (length keys) most_lines ≡ false → OfferJudged line keys (Ok found)
     unfolding offer_number lowest_of fields_in
     taken_judged found count e =
         record {
-          judged = λ held r. rw (form, sym (held-is held r form) ∙ other, sym (full_is held r) ∙ ne_eqb (length keys) most_lines e);
+          judged = λ held r. rw (form, sym (held-is held r form) ∙ other, sym (full_is held r) ∙ e);
           counted = λ f k. count ∙ ap (λ (r : Result Form Refusal). fields_in r) k;
         }
 
 -- the form that was found
 pub form_known : (line : List ℕ) (r : Option Form) (form : Form) → FormFound line r → r ≡ Some form
-    → (field_count line ≡ Some form.fields) × RunOfBytes is_name_byte line 0 form.contract
+    → (field_count line ≡ Some form.fields) × RunOfBytes is_name_byte line form.contract
 unfolding FormFound
 form_known line r form found is = subst (FormFound line) is found
 
@@ -215,135 +219,133 @@ pub bad_judged : (line keys : List ℕ) → field_count line ≡ None → OfferJ
 unfolding offer_number lowest_of
 bad_judged line keys none = record { judged = λ held r. rw (count_none line none); counted = λ f e. cc }
 
--- An offer to an opened register of n lines, by its number
-module _
-    (buffer line keys held : List ℕ)
-    (n : ℕ)
-    (read : OpenedRead buffer keys (Ok n))
-    (same : held ≡ keys)
-    (r : Result Form Refusal)
-    (j : OfferJudged line held r)
-  where
-    ready : RegisterReady buffer n keys
-    ready = opened_ready buffer keys n read
+-- An offer to an opened register, by its number
+module _ (buffer line keys : List ℕ) (ready : RegisterReady buffer keys) (r : Result Form Refusal) (j : OfferJudged line keys r) where
+  is_ready : buffer_open buffer ≡ true
+  is_ready = open_keeps buffer ready.keeps ∙ ready.is_open_lem
 
-    is_ready : buffer_open buffer ≡ true
-    is_ready = open_keeps buffer ready.counted.keeps ∙ ready.counted.is_open_lem
+  keyed : Keyed (register_in buffer).lines keys
+  keyed =
+      let s = read_sound buffer ready.keeps in
+      record { good = all_forms (register_in buffer) s; few = s.few; keyed = ready.keyed }
 
-    keyed : Keyed (register_in buffer).lines held
-    keyed =
-        let s = read_sound buffer ready.counted.keeps in
-        record { good = all_forms (register_in buffer) s; few = s.few; keyed = same ∙ ready.keyed }
+  number_is : offer_number (register_in buffer).lines line ≡ number_of r
+  number_is = sym (j.judged (register_in buffer).lines keyed)
 
-    number_is : offer_number (register_in buffer).lines line ≡ number_of r
-    number_is = sym (j.judged (register_in buffer).lines keyed)
+  pub offer_kept : (refusal : Refusal) → r ≡ Err refusal → buffer_back (number_of r) buffer ≡ offer_call buffer line
+  offer_kept refusal e = sym (offer_declined buffer line (number_of r) is_ready number_is (λ z. refusal_some refusal (sym (ap number_of e) ∙ z)))
 
-    pub offer_kept : (refusal : Refusal) → r ≡ Err refusal → buffer_back (number_of r) buffer ≡ offer_call buffer line
-    offer_kept refusal e = sym (offer_declined buffer line (number_of r) is_ready number_is (λ z. refusal_some refusal (sym (ap number_of e) ∙ z)))
+  module _ (form : Form) (ok : r ≡ Ok form) where
+    abbrev fields : Fields
+    fields = form.fields
 
-    module _ (form : Form) (ok : r ≡ Ok form) where
-      abbrev fields : ℕ
-      fields = form.fields
+    zero_is : number_of r ≡ 0
+    zero_is = ap number_of ok
 
-      zero_is : number_of r ≡ 0
-      zero_is = ap number_of ok
+    f : field_count line ≡ Some fields
+    f = j.counted form ok
 
-      f : field_count line ≡ Some fields
-      f = j.counted form ok
+    takes : OfferTaken (register_in buffer).lines line
+    takes = taken (register_in buffer).lines line (number_is ∙ zero_is)
 
-      takes : OfferTaken (register_in buffer).lines line
-      takes = taken (register_in buffer).lines line (number_is ∙ zero_is)
+    currency_is : is_currency (register_in buffer).house ≡ true
+    currency_is = house_open (register_in buffer) (read_sound buffer ready.keeps).home ready.is_open_lem
 
-      currency_is : is_currency (register_in buffer).house ≡ true
-      currency_is = house_open (register_in buffer) (read_sound buffer ready.counted.keeps).home ready.counted.is_open_lem
+    -- the house currency stands in the first three bytes
+    house-here : take 3 buffer ≡ (register_in buffer).house
+    unfolding register_in
+    house-here =
+        let h = text_in (header_in buffer) in
+        sym (take-take 3 header_size buffer (omega arith))
+        ∙ ap (take 3) (sym (text_front (header_in buffer)))
+        ∙ take_at h (drop (length h) (header_in buffer)) 3 (currency_size h currency_is)
 
-      -- the house currency stands in the first three bytes
-      house-here : take 3 buffer ≡ (register_in buffer).house
-      unfolding register_in
-      house-here =
-          let h = text_in (header_in buffer) in
-          sym (take-take 3 header_size buffer (omega arith))
-          ∙ ap (take 3) (sym (text_front (header_in buffer)))
-          ∙ take_at h (drop (length h) (header_in buffer)) 3 (currency_size h currency_is)
+    text_is : stored_by fields (take 3 buffer) line ≡ stored (register_in buffer).house line
+    text_is = ap (λ h. stored_by fields h line) house-here ∙ stored_is fields (register_in buffer).house line f
 
-      text_is : stored_by fields (take 3 buffer) line ≡ stored (register_in buffer).house line
-      text_is = ap (λ h. stored_by fields h line) house-here ∙ stored_is fields (register_in buffer).house line f
+    fits : length (stored (register_in buffer).house line) ≤ slot_size
+    fits =
+        let text = stored (register_in buffer).house line in
+        (line_size_lem text (record_form text (stored_record (register_in buffer).house currency_is line takes.form))).1
 
-      fits : length (stored (register_in buffer).house line) ≤ slot_size
-      fits =
-          let text = stored (register_in buffer).house line in
-          (line_size_lem text (record_form text (stored_record (register_in buffer).house currency_is line takes.form))).1
+    count : length keys ≡ length (register_in buffer).lines
+    count = ap length ready.keyed ∙ length-map (register_in buffer).lines key_in
 
-      pub offer_room : slot_at n + length (stored_by fields (take 3 buffer) line) ≤ length buffer
-      offer_room =
-          omega (
-            arith,
-            line_room buffer ready.counted.keeps (stored (register_in buffer).house line) fits takes.room,
-            ready.counted.count,
-            ap length text_is,
-          )
+    pub place_free : length keys < most_lines
+    place_free = omega (arith, count, takes.room)
 
-      pub offer_put : (left : List ℕ) → left ≡ splice buffer (slot_at n) (stored_by fields (take 3 buffer) line)
-          → buffer_back 0 left ≡ offer_call buffer line
-      offer_put left put =
-          let at : splice buffer (slot_at n) (stored_by fields (take 3 buffer) line)
-          ≡ splice buffer (slot_at (length (register_in buffer).lines)) (stored (register_in buffer).house line) =
-          ap₂ {C = List ℕ} (λ m t. splice buffer (slot_at m) t) ready.counted.count text_is in
-          ap (buffer_back 0)
-          (put ∙ at ∙ line-put buffer ready.counted.keeps (stored (register_in buffer).house line) fits takes.room)
-          ∙ sym (offer_taken buffer line is_ready (number_is ∙ zero_is))
+    pub offer_room : slot_at (length keys) + length (stored_by fields (take 3 buffer) line) ≤ length buffer
+    offer_room =
+        omega (
+          arith,
+          line_room buffer ready.keeps (stored (register_in buffer).house line) fits takes.room,
+          count,
+          ap length text_is,
+        )
+
+    pub offer_put : (left : List ℕ) → left ≡ splice buffer (slot_at (length keys)) (stored_by fields (take 3 buffer) line)
+        → buffer_back 0 left ≡ offer_call buffer line
+    offer_put left put =
+        let at : splice buffer (slot_at (length keys)) (stored_by fields (take 3 buffer) line)
+        ≡ splice buffer (slot_at (length (register_in buffer).lines)) (stored (register_in buffer).house line) =
+        ap₂ {C = List ℕ} (λ m t. splice buffer (slot_at m) t) count text_is in
+        ap (buffer_back 0)
+        (put ∙ at ∙ line-put buffer ready.keeps (stored (register_in buffer).house line) fits takes.room)
+        ∙ sym (offer_taken buffer line is_ready (number_is ∙ zero_is))
 
 pub offer_refuses : (buffer line : List ℕ) → buffer_open buffer ≡ false → buffer_back 14 buffer ≡ offer_call buffer line
 unfolding register_turned_down
 offer_refuses buffer line e = sym (offer_refused buffer line e)
 
 -- so what reading turns down
-pub offer_unopened : (buffer keys line : List ℕ) (refusal : Refusal) → OpenedRead buffer keys (Err refusal)
+pub offer_unopened : (buffer keys line : List ℕ) (refusal : Refusal) → KeysRead buffer keys (Err refusal)
     → buffer_back (refusal_number refusal) buffer ≡ offer_call buffer line
 offer_unopened buffer keys line refusal read =
-    let r = opened_refused buffer keys refusal read in
+    let r = keys_refused buffer keys refusal read in
     ap (λ k. buffer_back (refusal_number k) buffer) r.0 ∙ offer_refuses buffer line r.1
 
+-- the line of a place
+module _ (buffer : List ℕ) (n : ℕ) (c : LinesCounted buffer n) (place : ℕ) where
+  lent : buffer_open buffer ≡ true
+  lent = open_keeps buffer c.keeps ∙ c.is_open_lem
+
+  pub line_there : place < n → (line : Bor (List ℕ)) → line.now ≡ line_at (register_in buffer).lines place → LineHeld buffer place (Ok line)
+  unfolding LineHolds
+  line_there h line is =
+      let size = (line_size_lem (line_at (register_in buffer).lines place) (here-form buffer place (placed_below buffer n c place h))).1 in
+      record { finds = (is, omega (arith, ap length is, size), lent) }
+
+  pub line_none : n ≤ place → (line : Bor (List ℕ)) → line.now ≡ [] → LineHeld buffer place (Ok line)
+  unfolding LineHolds line_at
+  line_none h line is =
+      let outside : length (register_in buffer).lines ≤ place = omega (arith, c.count) in
+      let none = get_or-eq_default (register_in buffer).lines [] outside in
+      record { finds = (is ∙ sym none, omega (arith, ap (λ (l : List ℕ). length l) is), lent) }
+
 -- a line handed out, before zeros
-module _ (buffer : List ℕ) (place : ℕ) (p : Placed buffer place) where
-  pub line-lent : length (line_at (register_in buffer).lines place) ≤ slot_size
-  line-lent = (line_size_lem (line_at (register_in buffer).lines place) (here-form buffer place p)).1
-
--- no line, and a line handed out
-pub none_handed : (number : ℕ) (out : List ℕ) → out ≡ replicate line_size 0 → line_back number out 0 ≡ handing number []
-unfolding handing
-none_handed number out zeros = ap (λ l. line_back number l 0) zeros
-
 line_handed_out : (line : List ℕ) → line_back 0 (splice (replicate line_size 0) 0 line) (length line) ≡ handing 0 line
 unfolding handing splice
 line_handed_out line =
     ap (λ l. line_back 0 (line ++ l) (length line)) (drop-zeros (0 + length line) line_size ∙ ap (λ k. replicate (line_size - k) 0) (zero-add (length line)))
 
 module _ (buffer : List ℕ) (place : ℕ) where
-  pub line_refuses : (out : List ℕ) → out ≡ replicate line_size 0 → buffer_open buffer ≡ false → line_back 14 out 0 ≡ line_call buffer place
-  line_refuses out zeros e = none_handed 14 out zeros ∙ sym (line_refused buffer place e)
+  pub line_unopened : (refusal : Refusal) → OpenedRead buffer (Err refusal) → LineHeld buffer place (Err refusal)
+  unfolding LineHolds
+  line_unopened refusal read = record { finds = opened_refused buffer refusal read }
 
-  pub line_unopened : (keys out : List ℕ) (refusal : Refusal) → out ≡ replicate line_size 0 → OpenedRead buffer keys (Err refusal)
-      → line_back (refusal_number refusal) out 0 ≡ line_call buffer place
-  line_unopened keys out refusal zeros read =
-      let r = opened_refused buffer keys refusal read in
-      ap (λ k. line_back (refusal_number k) out 0) r.0 ∙ line_refuses out zeros r.1
+  pub line_lent : (line : Bor (List ℕ)) → LineHeld buffer place (Ok line) → length line.now ≤ slot_size
+  unfolding LineHolds
+  line_lent line held = held.finds.1
 
-  module _ (n : ℕ) (keys : List ℕ) (ready : RegisterReady buffer n keys) where
-    lent : buffer_open buffer ≡ true
-    lent = open_keeps buffer ready.counted.keeps ∙ ready.counted.is_open_lem
+  pub line-found : (line : Bor (List ℕ)) → LineHeld buffer place (Ok line) → (out : List ℕ) → out ≡ splice (replicate line_size 0) 0 line.now
+      → line_back 0 out (length line.now) ≡ line_call buffer place
+  unfolding LineHolds
+  line-found line held out put =
+      ap (λ o. line_back 0 o (length line.now)) put ∙ line_handed_out line.now ∙ ap (handing 0) held.finds.0
+      ∙ sym (line_handed buffer place held.finds.2)
 
-    pub line_placed : place < n → Placed buffer place
-    line_placed h = record { keeps = ready.counted.keeps; inside = omega (arith, ready.counted.count) }
-
-    pub line_none : (out : List ℕ) → out ≡ replicate line_size 0 → n ≤ place → line_back 0 out 0 ≡ line_call buffer place
-    unfolding line_at
-    line_none out zeros h =
-        none_handed 0 out zeros
-        ∙ ap (handing 0) (sym (get_or-eq_default (register_in buffer).lines [] (omega (arith, ready.counted.count))))
-        ∙ sym (line_handed buffer place lent)
-
-    pub line-found : (line out : List ℕ) → line ≡ line_at (register_in buffer).lines place → out ≡ splice (replicate line_size 0) 0 line
-        → line_back 0 out (length line) ≡ line_call buffer place
-    line-found line out is put =
-        ap (λ o. line_back 0 o (length line)) put ∙ line_handed_out line ∙ ap (handing 0) is ∙ sym (line_handed buffer place lent)
+  pub line_refuses : (refusal : Refusal) → LineHeld buffer place (Err refusal)
+      → line_back (refusal_number refusal) (replicate line_size 0) 0 ≡ line_call buffer place
+  unfolding LineHolds handing
+  line_refuses refusal held =
+      ap (λ k. line_back (refusal_number k) (replicate line_size 0) 0) held.finds.0 ∙ sym (line_refused buffer place held.finds.1)

@@ -1,13 +1,17 @@
 -- What the code says of lines put, stored and written out. Assumes nothing.
-use Rattle.std.specs.Prelude.{true, cond, List, ◌++◌, map, ◌≡◌, ℕ, ◌≤◌, eqb, length, take, drop}
-use Rattle.std.specs.Prelude.{Some, Result, Ok}
+use Rattle.std.specs.Prelude.{true, false, List, ◌++◌, map, ◌≡◌, ℕ, ◌≤◌, length, take, drop}
+use Rattle.std.specs.Borrow.{Bor}
+use Rattle.std.specs.Prelude.{Some, Result, Ok, Err}
 use Rattle.base.specs.Lists.{all}
-use Rattle.register.specs.Buffer.{register_in}
-use Rattle.register.specs.Calls.{with_register}
+use Rattle.register.specs.Buffer.{register_in, slot_size}
+use Rattle.register.specs.Calls.{buffer_open, with_register}
 use Rattle.register.specs.Line.{has_form, with_currency}
-use Rattle.register.specs.Register.{Lines, Register, most_lines, offer_number}
+use Rattle.register.specs.Register.{Lines, Register, line_at, most_lines, offer_number}
 use Rattle.register.specs.Refusals.{number_of}
 use Rattle.register.specs.declared.Refusal.{Refusal}
+use Rattle.register.specs.declared.Refusal.TheVariants.{BadBuffer}
+use Rattle.register_lines.specs.declared.Fields.{Fields}
+use Rattle.register_lines.specs.declared.Fields.TheVariants.{Four, Five}
 use Rattle.register_lines.specs.Fields.{field_count}
 use Rattle.register_lines.specs.declared.Form.{Form}
 use Rattle.register_reading.specs.Reading.{keys_of}
@@ -24,8 +28,9 @@ pub record OfferJudged (line keys : List ℕ) (r : Result Form Refusal) : Type 0
   pub counted : (form : Form) → r ≡ Ok form → field_count line ≡ Some form.fields
 
 -- a line of so many fields as it is stored: one of four with a comma and the house currency behind it
-unfoldable pub stored_by : (fields : ℕ) (house line : List ℕ) → List ℕ
-stored_by fields house line = cond (eqb fields 4) (with_currency house line) line
+unfoldable pub stored_by : Fields → (house line : List ℕ) → List ℕ
+stored_by Four house line = with_currency house line
+stored_by Five house line = line
 
 -- a register with a currency written behind its first k lines, and a buffer that has come so far
 abbrev pub written_to : (buffer currency : List ℕ) (k : ℕ) → Register
@@ -43,3 +48,11 @@ pub record WrittenTo (buffer currency : List ℕ) (k : ℕ) (so_far : List ℕ) 
 -- a currency was written behind each line of a register
 pub record WrittenOut (buffer currency left : List ℕ) : Type 0 where
   pub is : left ≡ with_register buffer (record { house = (register_in buffer).house; lines = map (with_currency currency) (register_in buffer).lines })
+
+-- the line of a place in an opened register, an empty one where none stands; any other buffer is refused
+unfoldable pub LineHolds : (buffer : List ℕ) (place : ℕ) → Result (Bor (List ℕ)) Refusal → Type 0
+LineHolds buffer place (Ok line) = (line.now ≡ line_at (register_in buffer).lines place) × (length line.now ≤ slot_size) × (buffer_open buffer ≡ true)
+LineHolds buffer place (Err refusal) = (refusal ≡ BadBuffer) × (buffer_open buffer ≡ false)
+
+pub record LineHeld (buffer : List ℕ) (place : ℕ) (r : Result (Bor (List ℕ)) Refusal) : Type 0 where
+  pub finds : LineHolds buffer place r

@@ -3,14 +3,14 @@
 // Assumes nothing.
 #![tactic(auto)]
 
-ghost use Rattle.std.specs.Prelude.{[], ◌∷◌, ◌||◌, ◌≡◌, ◌+◌, ◌≤◌, eqb, length, get_or};
+ghost use Rattle.std.specs.Prelude.{◌||◌, ◌≡◌};
 ghost use Rattle.std.specs.Char.{is_ascii_digit, is_ascii_uppercase};
 ghost use Rattle.std.specs.List.{prefix_len};
-ghost use Rattle.cards.specs.Bytes.{is_name_byte};
+ghost use Rattle.std.specs.Option.{option_map};
 ghost use Rattle.register.specs.Line.{is_currency};
-ghost use Rattle.register_lines.specs.Fields.{ContractFound, FormFound, GrainFound, NumberFound, RunOfBytes, fields_behind, fields_ended, number_run};
+ghost use Rattle.register_lines.specs.Fields.{ContractFound, FormFound, behind_comma, behind_grain, behind_number, fields_ended, number_run};
 
-use register::{CURRENCY, FIELDS, OLD_FIELDS};
+use register::CURRENCY;
 
 // the most bytes of a contract, the bytes of a grain, the most digits of tonnes and price
 const CONTRACT: usize = 8;
@@ -21,25 +21,22 @@ const TONNES: usize = 5;
 
 const PRICE: usize = 6;
 
-// a line that has its form: how many bytes its contract has, and how many fields it has, 4 or with a currency 5
-#[derive(Clone, Copy, Debug, PartialEq, Eq)]
+// how many fields a line has: four, as before the register is opened, or five, the fifth a currency
+#[derive(Clone, Copy, PartialEq, Eq)]
+pub enum Fields {
+    Four,
+    Five,
+}
+
+// a line that has its form: how many bytes its contract has, and how many fields it has
+#[derive(Clone, Copy)]
 pub struct Form {
     pub contract: usize,
-    pub fields: usize,
+    pub fields: Fields,
 }
 
-// how many letters and digits bytes begin with
-// kept: three chains that differ in their test alone; one function of a test would only wrap take_while and count
-fn names_len(bytes: &[u8]) -> usize
-    ensures { result ≡ prefix_len (λ b. is_ascii_uppercase b || is_ascii_digit b) bytes.now }
-{
-    bytes
-        .iter()
-        .take_while(|b| b.is_ascii_uppercase() || b.is_ascii_digit())
-        .count()
-}
-
-// how many letters
+// how many letters bytes begin with
+// kept: a chain here, in digits_len and contract_length, by its test alone; one function of a test would only wrap take_while and count
 fn letters_len(bytes: &[u8]) -> usize
     ensures { result ≡ prefix_len is_ascii_uppercase bytes.now }
 {
@@ -53,85 +50,65 @@ fn digits_len(bytes: &[u8]) -> usize
     bytes.iter().take_while(|b| b.is_ascii_digit()).count()
 }
 
-// whether n digits at a place are a number of at most so many, without a leading zero
+// whether digits are a number of at most so many, without a leading zero
 #[tactic(auto, unfolding(cards::specs::Bytes::between))]
-fn is_number(line: &[u8], at: usize, n: usize, most: usize) -> bool
-    requires { at + n ≤ length line.now }
-    ensures { result ≡ number_run line.now at n most }
+fn is_number(digits: &[u8], most: usize) -> bool
+    ensures { result ≡ number_run most digits.now }
 {
-    (1..=most).contains(&n) && line[at] != b'0'
-}
-
-// kept: a line and a place in it come apart: the place is what each reading answers, and the next one takes it with the same line
-fn has_comma(line: &[u8], at: usize) -> bool
-    ensures { result ≡ eqb (get_or line.now at 0) 44 }
-{
-    line.get(at) == Some(&b',')
+    (1..=most).contains(&digits.len()) && digits[0] != b'0'
 }
 
 // whether the bytes are three letters
 pub fn is_currency(v: &[u8]) -> bool
     ensures { result ≡ is_currency v.now }
 {
-    v.len() == CURRENCY && letters_len(v) == CURRENCY
+    v.len() == CURRENCY && v.iter().all(|b| b.is_ascii_uppercase())
 }
 
-// a comma at a place, and behind it a currency, with which the line ends
-#[tactic(auto, using(crate::specs::FieldLaws::no_comma, crate::specs::FieldLaws::comma_inside, crate::specs::FieldLaws::currency_behind))]
-fn currency_on(line: &[u8], at: usize) -> bool
-    ensures { result ≡ fields_behind (is_currency ∷ []) line.now at }
+// what stands behind a comma that comes first
+fn behind_comma(rest: &[u8]) -> Option<&[u8]>
+    ensures { option_map (λ r. r.now) result ≡ behind_comma rest.now }
 {
-    has_comma(line, at) && is_currency(&line[at + 1..])
+    rest.strip_prefix(b",")
 }
 
-// how many fields a line has whose price ends at a place: 4 where the line ends there, 5 where a comma and a currency end it
+// a comma, and behind it a number of at most so many digits: what follows it
+fn behind_number(rest: &[u8], most: usize) -> Option<&[u8]>
+    ensures { option_map (λ r. r.now) result ≡ behind_number most rest.now }
+{
+    let field = behind_comma(rest)?;
+    let (digits, behind) = field.split_at(digits_len(field));
+    is_number(digits, most).then_some(behind)
+}
+
+// a comma, and behind it the grain: what follows it
+fn behind_grain(rest: &[u8]) -> Option<&[u8]>
+    ensures { option_map (λ r. r.now) result ≡ behind_grain rest.now }
+{
+    let field = behind_comma(rest)?;
+    let (letters, behind) = field.split_at(letters_len(field));
+    (letters.len() == GRAIN).then_some(behind)
+}
+
+// how many fields a line has by what stands behind its price: four where nothing does, five where it is a comma and a currency
 #[inline]
-#[tactic(auto, unfolding(crate::specs::Fields::fields_ended))]
-fn ending_on(line: &[u8], at: usize) -> Option<usize>
-    ensures { result ≡ fields_ended line.now at }
+fn ending_on(rest: &[u8]) -> Option<Fields>
+    ensures { result ≡ fields_ended rest.now }
 {
-    if at == line.len() {
-        Some(OLD_FIELDS)
-    } else if currency_on(line, at) {
-        Some(FIELDS)
-    } else {
-        None
+    if rest.is_empty() {
+        return Some(Fields::Four);
     }
-}
-
-// a comma at a place, and behind it a number of at most so many digits: where it ends
-fn number_on(line: &[u8], at: usize, most: usize) -> Option<usize>
-    ensures { NumberFound most line.now at result }
-{
-    if !has_comma(line, at) {
-        return None;
-    }
-    let from = at + 1;
-    let n = digits_len(&line[from..]);
-    if is_number(line, from, n, most) {
-        Some(from + n)
-    } else {
-        None
-    }
-}
-
-// a comma at a place, and behind it the grain: where it ends
-fn grain_on(line: &[u8], at: usize) -> Option<usize>
-    ensures { GrainFound line.now at result }
-{
-    if !has_comma(line, at) {
-        return None;
-    }
-    let from = at + 1;
-    let n = letters_len(&line[from..]);
-    if n == GRAIN { Some(from + n) } else { None }
+    let currency = behind_comma(rest)?;
+    is_currency(currency).then_some(Fields::Five)
 }
 
 // how many letters and digits a line begins with: of a line that has its form, those of its contract
 pub fn contract_length(line: &[u8]) -> usize
-    ensures { RunOfBytes is_name_byte line.now 0 result }
+    ensures { result ≡ prefix_len (λ b. is_ascii_uppercase b || is_ascii_digit b) line.now }
 {
-    names_len(line)
+    line.iter()
+        .take_while(|b| b.is_ascii_uppercase() || b.is_ascii_digit())
+        .count()
 }
 
 // how many bytes the contract has that a line begins with: 1 to 8 letters and digits; None where it begins with fewer or more of them
@@ -139,11 +116,7 @@ fn contract_on(line: &[u8]) -> Option<usize>
     ensures { ContractFound line.now result }
 {
     let n = contract_length(line);
-    if (1..=CONTRACT).contains(&n) {
-        Some(n)
-    } else {
-        None
-    }
+    (1..=CONTRACT).contains(&n).then_some(n)
 }
 
 // the form of a line, if it is good
@@ -152,9 +125,9 @@ pub fn form_of(line: &[u8]) -> Option<Form>
     ensures { FormFound line.now result }
 {
     let contract = contract_on(line)?;
-    let grain = grain_on(line, contract)?;
-    let tonnes = number_on(line, grain, TONNES)?;
-    let price = number_on(line, tonnes, PRICE)?;
-    let fields = ending_on(line, price)?;
+    let behind = behind_grain(&line[contract..])?;
+    let price = behind_number(behind, TONNES)?;
+    let end = behind_number(price, PRICE)?;
+    let fields = ending_on(end)?;
     Some(Form { contract, fields })
 }

@@ -6,6 +6,8 @@ use mathlib.Core.List.{List, [], ◌∷◌, ◌++◌}
 use Rattle.std.proofs.Math.Path.{◌≡◌, refl, sym, ap, subst}
 use Rattle.std.proofs.Common.{◌∙◌, arith, take-append-drop, drop-drop, length-take-le, take_at, le-leb}
 use Rattle.std.proofs.Math.ListN.{length, take}
+use Rattle.std.proofs.lemmas.List.{length-map}
+use Rattle.std.specs.Bool.{then_some}
 use Rattle.base.specs.Choice.{both_pass, both_true, test_cases}
 use Rattle.base.specs.ListLaws.{all_append, all_drop, all_inside, all_take, stretch_cut, stretch_front}
 use Rattle.base.specs.Lists.{all, is_nil}
@@ -20,12 +22,15 @@ use Rattle.register.specs.Register.{Lines, differ, held_form, is_house, is_open,
 use Rattle.register.specs.RegisterLaws.{all_forms, currency_some, form_has, home_currency}
 use Rattle.register_lines.specs.FieldLaws.{five_fields, four-fields}
 use Rattle.register_lines.specs.Fields.{field_count, is_count}
-use Rattle.register_reading.specs.declared.Held.TheVariants.{Opened, Old}
-use Rattle.std.specs.Prelude.{Option, Some, None, Ok, Err}
+use Rattle.register_lines.specs.declared.Fields.{Fields}
+use Rattle.register_lines.specs.declared.Fields.TheVariants.{Four, Five}
+use Rattle.std.specs.Prelude.{Some, None, Ok, Err}
 use Rattle.register.specs.declared.Refusal.{Refusal}
 use Rattle.register.specs.declared.Refusal.TheVariants.{BadBuffer}
-use Rattle.register_reading.specs.Reading.{SlotsFound, SlotsHold, Placed, RegisterRead, RegisterReads, RegisterReady, OpenedRead, OpenedReads, Trimmed, Unopened}
-use Rattle.register_reading.specs.Reading.{fields_of, has_fields, header_fields, slot_at, slots_hold}
+use Rattle.register_reading.specs.declared.opened.Opened.{Opened}
+use Rattle.register_reading.specs.Opened.{OpenedRead, OpenedReads}
+use Rattle.register_reading.specs.Reading.{KeysRead, KeysReads, LinesCounted, Placed, RegisterHeld, RegisterRead, RegisterReads, RegisterReady, SlotsHold}
+use Rattle.register_reading.specs.Reading.{Trimmed, Unopened, fields_of, has_fields, header_fields, key_in, slot_at, slots_hold}
 use Rattle.register_reading.specs.SlotLaws.{trim_line}
 
 -- zeros from a later place on
@@ -59,7 +64,7 @@ module _ (header : List ℕ) (size : length header ≡ header_size) where
       false≢true (sym e ∙ later (length (text_in header)) 3 header few (cell-zeros is_house header keeps)))
 
   module _ (behind : all is_zero (drop 3 header) ≡ true) where
-    pub header_old : all is_zero (take 3 header) ≡ true → Some 4 ≡ header_fields header
+    pub header_old : all is_zero (take 3 header) ≡ true → Some Four ≡ header_fields header
     unfolding slot_cell_keeps is_house is_nil fields_of all
     header_old e =
         let zeros : all is_zero header ≡ true = ap (all is_zero) (sym whole) ∙ all_append is_zero (take 3 header) (drop 3 header) e behind in
@@ -67,7 +72,7 @@ module _ (header : List ℕ) (size : length header ≡ header_size) where
         let keeps : slot_cell_keeps is_house header ≡ true = rw none zeros in
         sym (fields_by true keeps ∙ ap (λ h. Some (fields_of h)) none)
 
-    pub header_open : is_currency (take 3 header) ≡ true → Some 5 ≡ header_fields header
+    pub header_open : is_currency (take 3 header) ≡ true → Some Five ≡ header_fields header
     unfolding slot_cell_keeps fields_of
     header_open is =
         let house : text_in header ≡ take 3 header =
@@ -91,7 +96,7 @@ module _ (header : List ℕ) (size : length header ≡ header_size) where
 
 -- a header that tells a number of fields keeps its rule, and one that tells none breaks it
 module _ (header : List ℕ) where
-  pub header_keeps : (fields : ℕ) → header_fields header ≡ Some fields
+  pub header_keeps : (fields : Fields) → header_fields header ≡ Some fields
       → (slot_cell_keeps is_house header ≡ true) × (fields ≡ fields_of (text_in header))
   unfolding header_fields
   header_keeps fields = keeps (slot_cell_keeps is_house header)
@@ -112,7 +117,7 @@ module _ (header : List ℕ) where
 form-fields : (house : List ℕ) → has_fields (fields_of house) ≡ held_form house
 unfolding has_fields fields_of held_form
 form-fields house =
-    test_cases (λ t. ◌≡◌ {A = List ℕ → Bool} (λ line. is_count (cond t 4 5) (field_count line)) (λ line. cond t (is_line line) (is_record line)))
+    test_cases (λ t. ◌≡◌ {A = List ℕ → Bool} (λ line. is_count (cond t Four Five) (field_count line)) (λ line. cond t (is_line line) (is_record line)))
     (is_nil house)
     (λ _ i line. four-fields line i) (λ _ i line. five_fields line i)
 
@@ -130,7 +135,7 @@ module _ (buffer keys : List ℕ) where
   unfolding buffer_keeps register_keeps_rules
   header_bad h e = read_broken buffer keys (rw (le-leb register_size (length buffer) h, header_lacks (header_in buffer) e))
 
-module _ (buffer : List ℕ) (fields : ℕ) (h : register_size ≤ length buffer) (is : header_fields (header_in buffer) ≡ Some fields) where
+module _ (buffer : List ℕ) (fields : Fields) (h : register_size ≤ length buffer) (is : header_fields (header_in buffer) ≡ Some fields) where
   fields_are : fields ≡ fields_of (text_in (header_in buffer))
   fields_are = (header_keeps (header_in buffer) fields is).1
 
@@ -141,91 +146,91 @@ module _ (buffer : List ℕ) (fields : ℕ) (h : register_size ≤ length buffer
       (ap (λ f. slots_keep f most_lines (slots_in buffer) && differ (lines_in most_lines (slots_in buffer)))
       (sym (ap has_fields fields_are ∙ form-fields (text_in (header_in buffer)))))
 
-  nil_is : (t : Bool) → cond t 4 5 ≡ fields_of (text_in (header_in buffer)) → is_nil (text_in (header_in buffer)) ≡ t
-  unfolding fields_of
-  nil_is t e = apart (is_nil (text_in (header_in buffer))) t e
-    where
-      apart : (a b : Bool) → ◌≡◌ {A = ℕ} (cond b 4 5) (cond a 4 5) → a ≡ b
-      apart true true x = refl
-      apart true false x = absurd (omega arith)
-      apart false true x = absurd (omega arith)
-      apart false false x = refl
-
-  open_is : (t : Bool) → cond t 4 5 ≡ fields → is_open (register_in buffer) ≡ not t
-  unfolding is_open register_in
-  open_is t e = ap not (nil_is t (e ∙ fields_are))
-
-  -- an old register has no other number of fields
-  not_five : ¬ (fields ≡ 5) → fields ≡ 4
-  unfolding fields_of
-  not_five n = either (is_nil (text_in (header_in buffer))) fields_are
-    where
-      either : (t : Bool) → fields ≡ cond t 4 5 → fields ≡ 4
-      either true e = e
-      either false e = absurd (n e)
-
-  module _ (keys : List ℕ) where
-    abbrev Found : Option ℕ → Type 0
-    Found = SlotsHold (slots_hold fields (slots_in buffer)) (lines_in most_lines (slots_in buffer)) keys
-
-    pub read_refused : Found None → RegisterRead buffer keys None
-    unfolding SlotsFound
-    read_refused found = read_broken buffer keys (judged ∙ found.finds)
-
-    module _ (n : ℕ) (found : Found (Some n)) where
-      pub read_opened : fields ≡ 5 → RegisterRead buffer keys (Some (Opened n))
-      unfolding SlotsFound RegisterReads register_in
-      read_opened five =
-          record {
-            finds =
-                record {
-                  counted = record { keeps = judged ∙ found.finds.0; is_open_lem = open_is false (sym five); count = found.finds.1 };
-                  keyed = found.finds.2;
-                };
-          }
-
-      pub read_old : ¬ (fields ≡ 5) → RegisterRead buffer keys (Some (Old n))
-      unfolding SlotsFound RegisterReads register_in
-      read_old n5 =
-          record {
-            finds = record { keeps = judged ∙ found.finds.0; is_old = open_is true (sym (not_five n5)); count = found.finds.1 };
-          }
+  pub read_told : (keys : List ℕ) (t : Bool) → SlotsHold (slots_hold fields (slots_in buffer)) (lines_in most_lines (slots_in buffer)) keys t
+      → RegisterRead buffer keys (then_some t fields)
+  unfolding RegisterReads register_in
+  read_told keys true found =
+      record { finds = record { keeps = judged ∙ sym found.told; form = fields_are; keyed = found.keyed refl } }
+  read_told keys false found = read_broken buffer keys (judged ∙ sym found.told)
 
 -- What was read, by what came back; W10.6 the buffers that every call but opening turns down.
-module _ (buffer keys : List ℕ) where
-  pub is_broken : RegisterRead buffer keys None → buffer_keeps buffer ≡ false
+module _ (buffer : List ℕ) where
+  pub is_broken : (keys : List ℕ) → RegisterRead buffer keys None → buffer_keeps buffer ≡ false
   unfolding RegisterReads
-  is_broken read = read.finds
+  is_broken keys read = read.finds
 
-  pub is_old : (n : ℕ) → RegisterRead buffer keys (Some (Old n)) → Unopened buffer n
+  pub read_known : (keys : List ℕ) (fields : Fields) → RegisterRead buffer keys (Some fields) → RegisterHeld buffer fields keys
   unfolding RegisterReads
-  is_old n read = read.finds
+  read_known keys fields read = read.finds
 
-  pub is_opened_lem : (n : ℕ) → RegisterRead buffer keys (Some (Opened n)) → RegisterReady buffer n keys
-  unfolding RegisterReads
-  is_opened_lem n read = read.finds
+  module _ (keys : List ℕ) where
+    pub held_opened : RegisterHeld buffer Five keys → RegisterReady buffer keys
+    unfolding is_open fields_of
+    held_opened held = record { keeps = held.keeps; is_open_lem = some (is_nil (register_in buffer).house) held.form; keyed = held.keyed }
+      where
+        some : (t : Bool) → Five ≡ cond t Four Five → not t ≡ true
+        some true e = cc
+        some false e = refl
 
-  pub opened_is : (n : ℕ) → RegisterRead buffer keys (Some (Opened n)) → OpenedRead buffer keys (Ok n)
-  unfolding OpenedReads
-  opened_is n read = record { finds = is_opened_lem n read }
+    pub held_old : RegisterHeld buffer Four keys → Unopened buffer (length keys)
+    unfolding is_open fields_of
+    held_old held =
+        record {
+          keeps = held.keeps;
+          is_old = none (is_nil (register_in buffer).house) held.form;
+          count = ap length held.keyed ∙ length-map (register_in buffer).lines key_in;
+        }
+      where
+        none : (t : Bool) → Four ≡ cond t Four Five → not t ≡ false
+        none true e = refl
+        none false e = cc
 
-  pub old_refused : (n : ℕ) → RegisterRead buffer keys (Some (Old n)) → OpenedRead buffer keys (Err BadBuffer)
-  unfolding OpenedReads
-  old_refused n read = let u = is_old n read in record { finds = (refl, open_keeps buffer u.keeps ∙ u.is_old) }
+    pub ready_counted : RegisterReady buffer keys → LinesCounted buffer (length keys)
+    ready_counted ready =
+        record {
+          keeps = ready.keeps;
+          is_open_lem = ready.is_open_lem;
+          count = ap length ready.keyed ∙ length-map (register_in buffer).lines key_in;
+        }
 
-  pub broken_refused : RegisterRead buffer keys None → OpenedRead buffer keys (Err BadBuffer)
-  unfolding OpenedReads
-  broken_refused read = record { finds = (refl, open_broken buffer (is_broken read)) }
+  -- the keys of an opened register
+  pub keys_ready : (keys : List ℕ) → RegisterRead buffer keys (Some Five) → KeysRead buffer keys (Ok tt)
+  unfolding KeysReads
+  keys_ready keys read = record { finds = held_opened keys (read_known keys Five read) }
 
--- what is known of an opened register that was read, and of any other buffer
-module _ (buffer keys : List ℕ) where
-  pub opened_ready : (n : ℕ) → OpenedRead buffer keys (Ok n) → RegisterReady buffer n keys
-  unfolding OpenedReads
-  opened_ready n read = read.finds
+  pub old_refused : (keys : List ℕ) → RegisterRead buffer keys (Some Four) → KeysRead buffer keys (Err BadBuffer)
+  unfolding KeysReads
+  old_refused keys read = let u = held_old keys (read_known keys Four read) in record { finds = (refl, open_keeps buffer u.keeps ∙ u.is_old) }
 
-  pub opened_refused : (refusal : Refusal) → OpenedRead buffer keys (Err refusal) → (refusal ≡ BadBuffer) × (buffer_open buffer ≡ false)
-  unfolding OpenedReads
-  opened_refused refusal read = read.finds
+  pub broken_refused : (keys : List ℕ) → RegisterRead buffer keys None → KeysRead buffer keys (Err BadBuffer)
+  unfolding KeysReads
+  broken_refused keys read = record { finds = (refl, open_broken buffer (is_broken keys read)) }
+
+  -- what is known of an opened register that was read, and of any other buffer
+  pub keys_known : (keys : List ℕ) (u : Unit {0}) → KeysRead buffer keys (Ok u) → RegisterReady buffer keys
+  unfolding KeysReads
+  keys_known keys u read = read.finds
+
+  pub keys_refused : (keys : List ℕ) (refusal : Refusal) → KeysRead buffer keys (Err refusal) → (refusal ≡ BadBuffer) × (buffer_open buffer ≡ false)
+  unfolding KeysReads
+  keys_refused keys refusal read = read.finds
+
+-- likewise with the lines counted
+pub opened_at : (buffer : List ℕ) (register : Opened) → register.buffer.now ≡ buffer → OpenedRead buffer (Ok register)
+unfolding OpenedReads
+opened_at buffer register is = record { finds = is }
+
+pub not_opened : (buffer keys : List ℕ) (refusal : Refusal) → KeysRead buffer keys (Err refusal) → OpenedRead buffer (Err refusal)
+unfolding OpenedReads
+not_opened buffer keys refusal read = record { finds = keys_refused buffer keys refusal read }
+
+pub opened_known : (buffer : List ℕ) (register : Opened) → OpenedRead buffer (Ok register) → register.buffer.now ≡ buffer
+unfolding OpenedReads
+opened_known buffer register read = read.finds
+
+pub opened_refused : (buffer : List ℕ) (refusal : Refusal) → OpenedRead buffer (Err refusal) → (refusal ≡ BadBuffer) × (buffer_open buffer ≡ false)
+unfolding OpenedReads
+opened_refused buffer refusal read = read.finds
 
 -- The line of a place stands in its slot, which keeps its rule
 record SlotHolds (form : List ℕ → Bool) (slot line : List ℕ) : Type 0 where
@@ -263,7 +268,14 @@ slots_at form (suc n) slots k e h =
         subst (λ l. SlotHolds form (take slot_size l) (get_or rest j [])) (drop-drop (slot_size * j) slot_size slots ∙ ap (λ n. drop n slots) at)
         (behind j (omega arith))
 
+-- an opened register has a line at each place below their count
+pub placed_below : (buffer : List ℕ) (n : ℕ) → LinesCounted buffer n → (place : ℕ) → place < n → Placed buffer place
+placed_below buffer n c place h = record { keeps = c.keeps; inside = omega (arith, c.count) }
+
 module _ (buffer : List ℕ) (place : ℕ) (p : Placed buffer place) where
+  pub place_few : place < most_lines
+  place_few = omega (arith, p.inside, (read_sound buffer p.keeps).few)
+
   abbrev at : ℕ
   at = slot_at place
 
@@ -283,20 +295,19 @@ module _ (buffer : List ℕ) (place : ℕ) (p : Placed buffer place) where
   unfolding line_at register_in
   here =
       let few = (read_sound buffer p.keeps).few in
-      let inside = p.inside in
       subst (λ s. SlotHolds form s (get_or (lines_in most_lines (slots_in buffer)) place []))
       (stretch_front slot_size (slot_size * place) (slot_size * most_lines) (drop header_size buffer) (omega arith)
       ∙ ap (take slot_size) (drop-drop (slot_size * place) header_size buffer))
       (slots_at form most_lines (slots_in buffer) place (kept buffer p.keeps).slots p.inside)
 
-  module _ (n : ℕ) (t : Trimmed (take (at + slot_size - at) (drop at buffer)) n) where
-    trims : Trimmed slot n
-    trims = subst (λ s. Trimmed s n) (stretch_cut buffer at slot_size) t
+  module _ (from : ℕ) (e : from ≡ at) (size : ℕ) (t : Trimmed (take (from + slot_size - from) (drop from buffer)) size) where
+    slot_is : take (from + slot_size - from) (drop from buffer) ≡ slot
+    slot_is = stretch_cut buffer from slot_size ∙ ap (λ k. take slot_size (drop k buffer)) e
 
-    pub line_stands : take n (take (at + slot_size - at) (drop at buffer)) ≡ line_at (register_in buffer).lines place
+    pub line_stands : take size (take (from + slot_size - from) (drop from buffer)) ≡ line_at (register_in buffer).lines place
     line_stands =
-        ap (take n) (stretch_cut buffer at slot_size)
-        ∙ trim_line form (form_has (text_in (header_in buffer))) slot n trims here.keeps
+        ap (take size) slot_is
+        ∙ trim_line form (form_has (text_in (header_in buffer))) slot size (subst (λ s. Trimmed s size) slot_is t) here.keeps
         ∙ here.is
 
   pub here-form : has_form (line_at (register_in buffer).lines place) ≡ true

@@ -9,9 +9,9 @@ use Rattle.register.specs.Line.{contract_of}
 use Rattle.register.specs.declared.Refusal.{Refusal}
 use Rattle.register.specs.declared.Refusal.TheVariants.{BadBuffer}
 use Rattle.register.specs.Register.{Lines, most_lines, differ, is_house, is_open}
+use Rattle.register_lines.specs.declared.Fields.{Fields}
+use Rattle.register_lines.specs.declared.Fields.TheVariants.{Four, Five}
 use Rattle.register_lines.specs.Fields.{field_count, is_count}
-use Rattle.register_reading.specs.declared.Held.{Held}
-use Rattle.register_reading.specs.declared.Held.TheVariants.{Opened, Old}
 
 -- the contracts of lines, each as one number
 unfoldable pub key_in : (line : List ℕ) → ℕ
@@ -27,11 +27,11 @@ pub record Trimmed (slot : List ℕ) (n : ℕ) : Type 0 where
   pub last : 0 < n → is_zero (get_or slot (n - 1) 0) ≡ false
 
 -- a line has so many fields, each with its form
-unfoldable pub has_fields : (fields : ℕ) (line : List ℕ) → Bool
+unfoldable pub has_fields : (fields : Fields) (line : List ℕ) → Bool
 has_fields fields line = is_count fields (field_count line)
 
 -- the key of the line in a slot, which should have so many fields; none where the slot breaks its rule
-unfoldable pub slot_key : (fields : ℕ) (slot : List ℕ) → Option ℕ
+unfoldable pub slot_key : (fields : Fields) (slot : List ℕ) → Option ℕ
 slot_key fields slot = cond (slot_cell_keeps (has_fields fields) slot) (Some (key_in (text_in slot))) None
 
 -- how many marks there are; a key is marked at its place among them
@@ -50,68 +50,63 @@ pub record KeyNoted (keys : List ℕ) (key : ℕ) (r : Bool) (keys' : List ℕ) 
   pub marked : r ≡ true → Marked keys' marks'
 
 -- the rules of the slots: 2, 3 and 4
-unfoldable pub slots_hold : (fields : ℕ) (slots : List ℕ) → Bool
+unfoldable pub slots_hold : (fields : Fields) (slots : List ℕ) → Bool
 slots_hold fields slots = slots_keep (has_fields fields) most_lines slots && differ (lines_in most_lines slots)
 
--- what was found, of slots that keep the rules or not: how many lines, with their keys
-unfoldable pub SlotsFound : (keeps : Bool) → Lines → (keys : List ℕ) → Option ℕ → Type 0
-SlotsFound keeps held keys (Some n) = (keeps ≡ true) × (n ≡ length held) × (keys ≡ keys_of held)
-SlotsFound keeps held keys None = keeps ≡ false
-
-pub record SlotsHold (keeps : Bool) (held : Lines) (keys : List ℕ) (r : Option ℕ) : Type 0 where
-  pub finds : SlotsFound keeps held keys r
+-- whether slots keep the rules, and then the keys of their lines
+pub record SlotsHold (keeps : Bool) (held : Lines) (keys : List ℕ) (r : Bool) : Type 0 where
+  pub told : r ≡ keeps
+  pub keyed : r ≡ true → keys ≡ keys_of held
 
 -- how many fields lines have in a register with this house currency; and under this header, none where it breaks its rule
-unfoldable pub fields_of : (house : List ℕ) → ℕ
-fields_of house = cond (is_nil house) 4 5
+unfoldable pub fields_of : (house : List ℕ) → Fields
+fields_of house = cond (is_nil house) Four Five
 
-unfoldable pub header_fields : (header : List ℕ) → Option ℕ
+unfoldable pub header_fields : (header : List ℕ) → Option Fields
 header_fields header = cond (slot_cell_keeps is_house header) (Some (fields_of (text_in header))) None
 
--- a register with so many lines: one that is opened, also with their keys; and one that isn't
+-- a register with how many fields its lines have, and their keys
+pub record RegisterHeld (buffer : List ℕ) (fields : Fields) (keys : List ℕ) : Type 0 where
+  pub keeps : buffer_keeps buffer ≡ true
+  pub form : fields ≡ fields_of (register_in buffer).house
+  pub keyed : keys ≡ keys_of (register_in buffer).lines
+
+-- a register that is opened, with the keys of its lines, and with their number; and one of so many lines that isn't opened
+pub record RegisterReady (buffer keys : List ℕ) : Type 0 where
+  pub keeps : buffer_keeps buffer ≡ true
+  pub is_open_lem : is_open (register_in buffer) ≡ true
+  pub keyed : keys ≡ keys_of (register_in buffer).lines
+
 pub record LinesCounted (buffer : List ℕ) (n : ℕ) : Type 0 where
   pub keeps : buffer_keeps buffer ≡ true
   pub is_open_lem : is_open (register_in buffer) ≡ true
   pub count : n ≡ length (register_in buffer).lines
-
-pub record RegisterReady (buffer : List ℕ) (n : ℕ) (keys : List ℕ) : Type 0 where
-  pub counted : LinesCounted buffer n
-  pub keyed : keys ≡ keys_of (register_in buffer).lines
 
 pub record Unopened (buffer : List ℕ) (n : ℕ) : Type 0 where
   pub keeps : buffer_keeps buffer ≡ true
   pub is_old : is_open (register_in buffer) ≡ false
   pub count : n ≡ length (register_in buffer).lines
 
--- what was read, of an opened register or any
-unfoldable pub RegisterReads : (buffer keys : List ℕ) → Option Held → Type 0
-RegisterReads buffer keys (Some (Opened n)) = RegisterReady buffer n keys
-RegisterReads buffer keys (Some (Old n)) = Unopened buffer n
+-- what was read, of any register; and the keys of an opened one
+unfoldable pub RegisterReads : (buffer keys : List ℕ) → Option Fields → Type 0
+RegisterReads buffer keys (Some fields) = RegisterHeld buffer fields keys
 RegisterReads buffer keys None = buffer_keeps buffer ≡ false
 
-pub record RegisterRead (buffer keys : List ℕ) (r : Option Held) : Type 0 where
+pub record RegisterRead (buffer keys : List ℕ) (r : Option Fields) : Type 0 where
   pub finds : RegisterReads buffer keys r
 
-unfoldable pub OpenedReads : (buffer keys : List ℕ) → Result ℕ Refusal → Type 0
-OpenedReads buffer keys (Ok n) = RegisterReady buffer n keys
-OpenedReads buffer keys (Err refusal) = (refusal ≡ BadBuffer) × (buffer_open buffer ≡ false)
+unfoldable pub KeysReads : (buffer keys : List ℕ) → Result (Unit {0}) Refusal → Type 0
+KeysReads buffer keys (Ok _) = RegisterReady buffer keys
+KeysReads buffer keys (Err refusal) = (refusal ≡ BadBuffer) × (buffer_open buffer ≡ false)
 
-pub record OpenedRead (buffer keys : List ℕ) (r : Result ℕ Refusal) : Type 0 where
-  pub finds : OpenedReads buffer keys r
+pub record KeysRead (buffer keys : List ℕ) (r : Result (Unit {0}) Refusal) : Type 0 where
+  pub finds : KeysReads buffer keys r
 
 -- a buffer with a register that has a line at a place
 pub record Placed (buffer : List ℕ) (place : ℕ) : Type 0 where
   pub keeps : buffer_keeps buffer ≡ true
   pub inside : place < length (register_in buffer).lines
 
--- where its slot begins
+-- where the slot of a place begins
 abbrev pub slot_at : (place : ℕ) → ℕ
 slot_at place = header_size + slot_size * place
-
--- what is found at slot k, which begins with zero: the end of the lines, or a byte that isn't zero behind it
-unfoldable pub EndFinds : (slots : List ℕ) (k : ℕ) → Option ℕ → Type 0
-EndFinds slots k (Some n) = (n ≡ k) × (all is_zero (drop (slot_size * k) slots) ≡ true)
-EndFinds slots k None = all is_zero (drop (slot_size * k) slots) ≡ false
-
-pub record EndFound (slots : List ℕ) (k : ℕ) (r : Option ℕ) : Type 0 where
-  pub finds : EndFinds slots k r

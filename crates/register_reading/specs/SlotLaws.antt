@@ -8,7 +8,7 @@ use Rattle.std.proofs.Common.{subst, ◌∙◌, add-zero, take-append-drop, drop
 use native.Mathlib.Omega.{arith}
 use Rattle.std.proofs.Math.ListN.{length, take, length-append, get_or-append}
 use Rattle.std.proofs.Math.Seq.{length-take-le}
-use borrow.Author.Tests.{eq-eqb, ne_eqb, not-true}
+use borrow.Author.Tests.{not-true}
 use Rattle.std.specs.Prelude.{Option, Some, None, reverse}
 use Rattle.std.specs.List.{prefix_len, suffix_len}
 use Rattle.std.proofs.lemmas.List.{drop-append-le, get_or_push, length-map, length-reverse, reverse-append, reverse-reverse}
@@ -25,12 +25,13 @@ use Rattle.register.specs.LineLaws.{is_text, line_size_lem, line_text}
 use Rattle.register.specs.Register.{Lines, most_lines, differ, is_held}
 use Rattle.register.specs.RegisterLaws.{differ-more, differ-split}
 use Rattle.register_lines.specs.FieldLaws.{contract_size, count_some}
+use denote.Enum.Bare.{sameb}
+use Rattle.register_lines.specs.contracts.Fields.{the_type}
+use Rattle.register_lines.specs.declared.Fields.{Fields}
+use Rattle.register_lines.specs.declared.Fields.TheVariants.{Four, Five}
 use Rattle.register_lines.specs.Fields.{RunOfBytes, field_count, is_count}
 use Rattle.register_reading.specs.KeyLaws.{key-read, keys_hold, none_marked}
 use Rattle.register_reading.specs.Reading.{
-  EndFinds,
-  EndFound,
-  SlotsFound,
   SlotsHold,
   Marked,
   KeyNoted,
@@ -97,7 +98,7 @@ last_some line rest form =
     ∙ not-true (is_zero (get_or line (length line - 1) 0)) (all_inside is_text line 0 (line_text line form) (length line - 1) (omega arith))
 
 -- Slots read up to slot k: the lines so far, with their keys, all marked; what is left to read, and to judge.
-pub record SlotsReadTo (fields : ℕ) (slots keys : List ℕ) (marks : List Bool) (k : ℕ) : Type 0 where
+pub record SlotsReadTo (fields : Fields) (slots keys : List ℕ) (marks : List Bool) (k : ℕ) : Type 0 where
   pub done : Lines
   pub count : length done ≡ k
   pub few : k ≤ most_lines
@@ -109,7 +110,7 @@ pub record SlotsReadTo (fields : ℕ) (slots keys : List ℕ) (marks : List Bool
   pub marked : Marked keys marks
 
 -- slot k cut off, with those before it read, and what is behind it
-pub record SlotNext (fields : ℕ) (slots keys : List ℕ) (marks : List Bool) (slot behind : List ℕ) (k : ℕ) : Type 0 where
+pub record SlotNext (fields : Fields) (slots keys : List ℕ) (marks : List Bool) (slot behind : List ℕ) (k : ℕ) : Type 0 where
   pub read : SlotsReadTo fields slots keys marks k
   pub inside : k < most_lines
   pub is : take slot_size (drop (slot_size * k) slots) ≡ slot
@@ -153,45 +154,42 @@ pub zeros-behind : (l : List ℕ) (at : ℕ) (r : Bool) → r ≡ all is_zero (t
 zeros-behind l at r e = ap (all is_zero) (sym (stretch_end l at (length l - at) refl)) ∙ sym e
 
 -- what a reading finds
-found-lines : (keeps : Bool) (held : Lines) (keys : List ℕ) (n : ℕ) → keeps ≡ true → n ≡ length held
-    → keys ≡ keys_of held → SlotsHold keeps held keys (Some n)
-unfolding SlotsFound
-found-lines keeps held keys n e count keyed = record { finds = (e, count, keyed) }
+found-lines : (keeps : Bool) (held : Lines) (keys : List ℕ) → keeps ≡ true → keys ≡ keys_of held → SlotsHold keeps held keys true
+found-lines keeps held keys e keyed = record { told = sym e; keyed = λ _. keyed }
 
-pub found_broken : (keeps : Bool) (held : Lines) (keys : List ℕ) → keeps ≡ false → SlotsHold keeps held keys None
-unfolding SlotsFound
-found_broken keeps held keys e = record { finds = e }
+pub found_broken : (keeps : Bool) (held : Lines) (keys : List ℕ) → keeps ≡ false → SlotsHold keeps held keys false
+found_broken keeps held keys e = record { told = sym e; keyed = λ is. absurd (false≢true is) }
 
--- what is found at slot k, where the lines end
-pub end_found : (slots : List ℕ) (k : ℕ) → all is_zero (drop (slot_size * k) slots) ≡ true → EndFound slots k (Some k)
-unfolding EndFinds
-end_found slots k e = record { finds = (refl, e) }
+-- whether there are so many fields
+none_counts : (fields : Fields) → is_count fields None ≡ false
+unfolding is_count
+none_counts Four = refl
+none_counts Five = refl
 
-pub end_broken : (slots : List ℕ) (k : ℕ) → all is_zero (drop (slot_size * k) slots) ≡ false → EndFound slots k None
-unfolding EndFinds
-end_broken slots k e = record { finds = e }
+some_counts : (fields n : Fields) → is_count fields (Some n) ≡ sameb the_type n fields
+unfolding is_count
+some_counts Four Four = refl
+some_counts Four Five = refl
+some_counts Five Four = refl
+some_counts Five Five = refl
 
 -- Slots whose lines should have so many fields.
-module _ (fields : ℕ) where
+module _ (fields : Fields) where
   fields-form : (line : List ℕ) → has_fields fields line ≡ true → has_form line ≡ true
-  unfolding has_fields is_count
+  unfolding has_fields
   fields-form line = counted (field_count line) refl
     where
-      counted : (count : Option ℕ) → field_count line ≡ count → is_count fields count ≡ true → has_form line ≡ true
+      counted : (count : Option Fields) → field_count line ≡ count → is_count fields count ≡ true → has_form line ≡ true
       counted (Some n) is e = count_some line n is
-      counted None is e = absurd (false≢true e)
+      counted None is e = absurd (false≢true (sym (none_counts fields) ∙ e))
 
   pub form_none : (line : List ℕ) → field_count line ≡ None → has_fields fields line ≡ false
-  unfolding has_fields is_count
-  form_none line e = rw e refl
+  unfolding has_fields
+  form_none line e = ap (is_count fields) e ∙ none_counts fields
 
-  pub form_other : (line : List ℕ) (n : ℕ) → field_count line ≡ Some n → ¬ (n ≡ fields) → has_fields fields line ≡ false
-  unfolding has_fields is_count
-  form_other line n e other = rw e (ne_eqb n fields other)
-
-  pub form_same : (line : List ℕ) (n : ℕ) → field_count line ≡ Some n → n ≡ fields → has_fields fields line ≡ true
-  unfolding has_fields is_count
-  form_same line n e same = rw e (eq-eqb n fields same)
+  pub form_told : (line : List ℕ) (n : Fields) → field_count line ≡ Some n → has_fields fields line ≡ sameb the_type n fields
+  unfolding has_fields
+  form_told line n e = ap (is_count fields) e ∙ some_counts fields n
 
   -- the key of a slot, by the form of what stands in it
   module _ (slot : List ℕ) (n : ℕ) (t : Trimmed slot n) where
@@ -204,7 +202,7 @@ module _ (fields : ℕ) where
         absurd (false≢true (sym lacks ∙ ap (has_fields fields) line ∙ cell-form (has_fields fields) slot keeps)))
         (λ _ _. refl) refl
 
-    pub slot-keyed : (contract : ℕ) → RunOfBytes is_name_byte (take n slot) 0 contract → has_fields fields (take n slot) ≡ true
+    pub slot-keyed : (contract : ℕ) → RunOfBytes is_name_byte (take n slot) contract → has_fields fields (take n slot) ≡ true
         → Some (key_of (without_blanks (take 8 (take contract (take n slot))))) ≡ slot_key fields slot
     unfolding slot_key
     slot-keyed contract r form =
@@ -326,7 +324,7 @@ module _ (fields : ℕ) where
     slots_noted = ap length r.keyed ∙ length-map r.done key_in ∙ r.count
 
     -- all slots are read
-    pub read_all : k ≡ most_lines → SlotsHold (slots_hold fields slots) (lines_in most_lines slots) keys (Some k)
+    pub read_all : k ≡ most_lines → SlotsHold (slots_hold fields slots) (lines_in most_lines slots) keys true
     unfolding slots_hold lines_in slots_keep
     read_all full =
         let none : most_lines - k ≡ 0 = omega arith in
@@ -334,8 +332,8 @@ module _ (fields : ℕ) where
         r.lines ∙ ap (λ n. r.done ++ lines_in n (drop (slot_size * k) slots)) none ∙ append-nil r.done in
         let keep : slots_keep (has_fields fields) most_lines slots ≡ true = r.keep ∙ ap
         (λ n. slots_keep (has_fields fields) n (drop (slot_size * k) slots)) none in
-        found-lines (slots_hold fields slots) (lines_in most_lines slots) keys k
-        (both_pass keep (ap differ lines ∙ r.different)) (sym r.count ∙ sym (ap length lines)) (r.keyed ∙ sym (ap keys_of lines))
+        found-lines (slots_hold fields slots) (lines_in most_lines slots) keys
+        (both_pass keep (ap differ lines ∙ r.different)) (r.keyed ∙ sym (ap keys_of lines))
 
     module _ (h : k < most_lines) where
       -- slot k is empty
@@ -346,24 +344,22 @@ module _ (fields : ℕ) where
         ended_keep : slots_keep (has_fields fields) most_lines slots ≡ all is_zero (drop (slot_size * k) slots)
         ended_keep = r.keep ∙ keep_stop slots k h z
 
-        pub read_ends : (held : Option ℕ) → EndFound slots k held → SlotsHold (slots_hold fields slots) (lines_in most_lines slots) keys held
-        unfolding EndFinds slots_hold
-        read_ends (Some n) e =
-            let is = e.finds.0 in
-            found-lines (slots_hold fields slots) (lines_in most_lines slots) keys n
-            (both_pass (ended_keep ∙ e.finds.1) (ap differ ended_lines ∙ r.different))
-            (is ∙ sym r.count ∙ sym (ap length ended_lines))
-            (r.keyed ∙ sym (ap keys_of ended_lines))
-        read_ends None e =
+        pub read_ends : (t : Bool) → t ≡ all is_zero (drop (slot_size * k) slots)
+            → SlotsHold (slots_hold fields slots) (lines_in most_lines slots) keys t
+        unfolding slots_hold
+        read_ends true e =
+            found-lines (slots_hold fields slots) (lines_in most_lines slots) keys
+            (both_pass (ended_keep ∙ sym e) (ap differ ended_lines ∙ r.different)) (r.keyed ∙ sym (ap keys_of ended_lines))
+        read_ends false e =
             found_broken (slots_hold fields slots) (lines_in most_lines slots) keys
-            (ap (λ b. b && differ (lines_in most_lines slots)) (ended_keep ∙ e.finds))
+            (ap (λ b. b && differ (lines_in most_lines slots)) (ended_keep ∙ sym e))
 
       -- slot k has a line
       module _ (z : is_zero (get_or slots (slot_size * k) 0) ≡ false) where
         abbrev slot : List ℕ
         slot = take slot_size (drop (slot_size * k) slots)
 
-        pub read_bad : slot_key fields slot ≡ None → SlotsHold (slots_hold fields slots) (lines_in most_lines slots) keys None
+        pub read_bad : slot_key fields slot ≡ None → SlotsHold (slots_hold fields slots) (lines_in most_lines slots) keys false
         unfolding slots_hold
         read_bad none =
             let lacks = key_lacks slot none in
@@ -393,8 +389,7 @@ module _ (fields : ℕ) where
           held-is =
               ap₂ {C = Bool} among holds-slot.1 r.keyed ∙ keys_hold r.done line r.good form
 
-          pub read_twice : (keys' : List ℕ) → among key keys ≡ true
-              → SlotsHold (slots_hold fields slots) (lines_in most_lines slots) keys' None
+          pub read_twice : (keys' : List ℕ) → among key keys ≡ true → SlotsHold (slots_hold fields slots) (lines_in most_lines slots) keys' false
           unfolding slots_hold
           read_twice keys' found =
               let same : differ (lines_in most_lines slots) ≡ false =

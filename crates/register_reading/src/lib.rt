@@ -3,29 +3,28 @@
 // Assumes nothing.
 #![tactic(auto)]
 
-ghost use Rattle.std.specs.Prelude.{false, fold, ◌==◌, ◌||◌, ◌≡◌, ◌*◌, ◌<◌, ◌≤◌, length};
+ghost use Rattle.std.specs.Prelude.{false, fold, ◌==◌, ◌||◌, ◌≡◌, ◌*◌, ◌<◌, drop, length};
 ghost use Rattle.std.specs.List.{suffix_len};
 ghost use Rattle.arrayvec.specs.ArrayVec.{array_vec_len};
+ghost use Rattle.base.specs.Lists.{all};
 ghost use Rattle.register.specs.Buffer.{header_size, is_zero, lines_in, register_in, slot_size};
 ghost use Rattle.register.specs.Register.{line_at, most_lines};
-ghost use Rattle.register_reading.specs.Reading.{EndFound, SlotsHold, Marked, KeyNoted, OpenedRead, Placed, RegisterRead, Trimmed};
-ghost use Rattle.register_reading.specs.Reading.{header_fields, slot_key, slots_hold};
+ghost use Rattle.register_reading.specs.Opened.{OpenedRead};
+ghost use Rattle.register_reading.specs.Reading.{SlotsHold, Marked, KeyNoted, KeysRead, Placed, RegisterRead, Trimmed};
+ghost use Rattle.register_reading.specs.Reading.{header_fields, slot_at, slot_key, slots_hold};
 
 use arrayvec::ArrayVec;
 use card_reader::keys;
-use register::{CURRENCY, FIELDS, HEADER, LINES, OLD_FIELDS, Refusal, SIZE, SLOT};
-use register_lines::{form_of, is_currency};
+use register::{CURRENCY, HEADER, LINES, Refusal, SIZE, SLOT};
+use register_lines::{Fields, form_of, is_currency};
 use store::spans;
+
+mod opened;
+
+pub use opened::Opened;
 
 // how many marks tell that a key may be held already: a prime, so that contracts in a row have marks of their own
 const MARKS: usize = 4093;
-
-// how many lines a register holds: one that is opened, or one that isn't
-#[derive(Clone, Copy, Debug, PartialEq, Eq)]
-pub enum Held {
-    Opened(usize),
-    Old(usize),
-}
 
 // whether a key is among others; all are compared, so that this becomes vector code
 // kept: contains, which leaves at the first that is the same, took twice as long over contracts made against the marks
@@ -37,7 +36,7 @@ pub fn is_among(keys: &[u64], key: u64) -> bool
 }
 
 // Notes a key behind the others and marks it, unless it is one of them. It is compared with them only where its mark is there.
-fn note(keys: &mut ArrayVec<u64, LINES>, marks: &mut [bool], key: u64) -> bool
+fn note(keys: &mut ArrayVec<u64, LINES>, marks: &mut [bool; MARKS], key: u64) -> bool
     requires { Marked keys.old.items marks.old × (array_vec_len keys.old < most_lines) }
     ensures { KeyNoted keys.old.items key result keys.new.items marks.new }
 {
@@ -65,7 +64,7 @@ pub fn line_length(slot: &[u8]) -> usize
 }
 
 // the key of the contract in a slot whose line should have so many fields; None where the slot breaks its rule
-fn slot_key(slot: &[u8], fields: usize) -> Option<u64>
+fn slot_key(slot: &[u8], fields: Fields) -> Option<u64>
     ensures { result ≡ slot_key fields slot.now }
 {
     let line = &slot[..line_length(slot)];
@@ -76,20 +75,17 @@ fn slot_key(slot: &[u8], fields: usize) -> Option<u64>
     Some(keys::key_of(&line[..form.contract]))
 }
 
-// how many lines there are where slot k begins with zero: all behind it must be zero
-fn found_end(slots: &[u8], k: usize) -> Option<usize>
+// whether nothing stands behind the lines, where slot k begins with zero: all behind it must be zero
+fn ends_at(slots: &[u8], k: usize) -> bool
     requires { (length slots.now ≡ slot_size * most_lines) × (k < most_lines) }
-    ensures { EndFound slots.now k result }
+    ensures { result ≡ all is_zero (drop (slot_size * k) slots.now) }
 {
-    if spans::are_zero(&slots[SLOT * k..]) {
-        Some(k)
-    } else {
-        None
-    }
+    spans::are_zero(&slots[SLOT * k..])
 }
 
-// how many lines are in the slots, which should have so many fields, with their keys; None where the slots break their rules
-fn read_slots(slots: &[u8], fields: usize, keys: &mut ArrayVec<u64, LINES>) -> Option<usize>
+// whether the slots keep their rules, with lines of so many fields, whose keys these then are
+// kept: keys is lent to be filled, here and below: answered by value, a call on an empty register took 1.8 to 2.0 times as long, on a full one 1.06
+fn read_slots(slots: &[u8], fields: Fields, keys: &mut ArrayVec<u64, LINES>) -> bool
     requires { length slots.now ≡ slot_size * most_lines }
     ensures { SlotsHold (slots_hold fields slots.now) (lines_in most_lines slots.now) keys.new.items result }
 {
@@ -97,57 +93,74 @@ fn read_slots(slots: &[u8], fields: usize, keys: &mut ArrayVec<u64, LINES>) -> O
     let mut marks = [false; MARKS];
     for (k, slot) in slots.chunks_exact(SLOT).enumerate() {
         if slot[0] == 0 {
-            return found_end(slots, k);
+            return ends_at(slots, k);
         }
-        let key = slot_key(slot, fields)?;
+        let Some(key) = slot_key(slot, fields) else {
+            return false;
+        };
         if !note(keys, &mut marks, key) {
-            return None;
+            return false;
         }
     }
-    Some(LINES)
+    true
 }
 
 // how many fields lines have under this header: five where it has a house currency, four where it is all zeros; None where it is neither
-fn header_fields(header: &[u8]) -> Option<usize>
+fn header_fields(header: &[u8]) -> Option<Fields>
     requires { length header.now ≡ header_size }
     ensures { result ≡ header_fields header.now }
 {
     if !spans::are_zero(&header[CURRENCY..]) {
         None
     } else if spans::are_zero(&header[..CURRENCY]) {
-        Some(OLD_FIELDS)
+        Some(Fields::Four)
     } else if is_currency(&header[..CURRENCY]) {
-        Some(FIELDS)
+        Some(Fields::Five)
     } else {
         None
     }
 }
 
-// the register in a buffer; None where the buffer is too small or against the rules
-pub fn read_register(buffer: &[u8], keys: &mut ArrayVec<u64, LINES>) -> Option<Held>
+// how many fields the lines of the register in a buffer have, and their keys; None where the buffer is too small or against the rules
+pub fn read_register(buffer: &[u8], keys: &mut ArrayVec<u64, LINES>) -> Option<Fields>
     ensures { RegisterRead buffer.now keys.new.items result }
 {
     if buffer.len() < SIZE {
         return None;
     }
     let fields = header_fields(&buffer[..HEADER])?;
-    let n = read_slots(&buffer[HEADER..SIZE], fields, keys)?;
-    if fields == FIELDS {
-        Some(Held::Opened(n))
-    } else {
-        Some(Held::Old(n))
+    read_slots(&buffer[HEADER..SIZE], fields, keys).then_some(fields)
+}
+
+// the keys of an opened register's lines; any other buffer is refused
+#[tactic(auto, using(crate::specs::ReadLaws::keys_ready, crate::specs::ReadLaws::old_refused, crate::specs::ReadLaws::broken_refused))]
+pub fn read_keys(buffer: &[u8], keys: &mut ArrayVec<u64, LINES>) -> Result<(), Refusal>
+    ensures { KeysRead buffer.now keys.new.items result }
+{
+    match read_register(buffer, keys) {
+        Some(Fields::Five) => Ok(()),
+        Some(Fields::Four) | None => Err(Refusal::BadBuffer),
     }
 }
 
-// how many lines an opened register holds; any other buffer is refused
-#[tactic(auto, using(crate::specs::ReadLaws::opened_is, crate::specs::ReadLaws::old_refused, crate::specs::ReadLaws::broken_refused))]
-pub fn read_opened(buffer: &[u8], keys: &mut ArrayVec<u64, LINES>) -> Result<usize, Refusal>
-    ensures { OpenedRead buffer.now keys.new.items result }
+// the opened register in a buffer; any other buffer is refused
+pub fn read_opened(buffer: &[u8]) -> Result<Opened<'_>, Refusal>
+    ensures { OpenedRead buffer.now result }
 {
-    match read_register(buffer, keys) {
-        Some(Held::Opened(n)) => Ok(n),
-        Some(Held::Old(_)) | None => Err(Refusal::BadBuffer),
-    }
+    let mut keys = ArrayVec::new();
+    read_keys(buffer, &mut keys)?;
+    Ok(Opened {
+        buffer,
+        lines: keys.len(),
+    })
+}
+
+// where the slot of a place begins
+pub fn slot_at(place: usize) -> usize
+    requires { place < most_lines }
+    ensures { result ≡ slot_at place }
+{
+    HEADER + SLOT * place
 }
 
 // the line of a place, in a register that has one there
@@ -155,7 +168,7 @@ pub fn line_in(buffer: &[u8], place: usize) -> &[u8]
     requires { Placed buffer.now place }
     ensures { result.now ≡ line_at (register_in buffer.now).lines place }
 {
-    let at = HEADER + SLOT * place;
+    let at = slot_at(place);
     let slot = &buffer[at..at + SLOT];
     &slot[..line_length(slot)]
 }

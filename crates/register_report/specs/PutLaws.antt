@@ -1,8 +1,8 @@
 -- The columns of a register's lines, its lines put, and its report put together. Assumes nothing.
-use Rattle.std.specs.Prelude.{true, false, ◌≡◌, refl, ℕ, ◌+◌, ◌≤◌, ◌<◌, leb, set}
+use Rattle.std.specs.Prelude.{true, false, ◌≡◌, refl, ℕ, ◌+◌, ◌≤◌, ◌<◌, leb}
 use mathlib.Core.List.{List, [], ◌∷◌, ◌++◌, map, map-append}
 use Rattle.std.proofs.Math.Path.{sym, ap, ap₂}
-use Rattle.std.proofs.Common.{◌∙◌, subst, zero-add, add-one, take-append-drop, length-take-le, take_all, take-suc-set, le-leb}
+use Rattle.std.proofs.Common.{◌∙◌, subst, zero-add, add-one, take-append-drop, length-take-le, take_all, le-leb}
 use native.Mathlib.Omega.{arith}
 use Rattle.std.proofs.Math.ListN.{length, take, drop, length-append}
 use Rattle.std.proofs.lemmas.List.{length-map}
@@ -26,11 +26,12 @@ use Rattle.register.specs.RegisterLaws.{open_records}
 use Rattle.register.specs.Report.{printed_records, report, tonnes_of, total_lines, value_of}
 use Rattle.register.specs.ReportLaws.{most_report, most_value, printed-append, record_small, report_size, value_small}
 use Rattle.register_reading.specs.ReadLaws.{opened_refused}
-use Rattle.register_reading.specs.Reading.{LinesCounted, OpenedRead, Placed}
+use Rattle.register_reading.specs.Opened.{OpenedRead}
+use Rattle.register_reading.specs.Reading.{LinesCounted}
 use Rattle.register_report.specs.Codes.{currency_code_in}
 use Rattle.register_report.specs.declared.Sizes.{Sizes}
 use Rattle.register_report.specs.declared.Worth.{Worth}
-use Rattle.register_report.specs.Sums.{LinesWeighed, LinesPut, RecordPut, TotalsMade, Weighed, WorthsFit, WorthsOf, codes_in, tonnes_in, values_in}
+use Rattle.register_report.specs.Sums.{LinesPut, TotalsMade, Weighed, WorthsFit, WorthsOf, codes_in, tonnes_in, values_in}
 
 -- The columns of lines are small enough for their sums.
 column_small : (f : List ℕ → ℕ) (most : ℕ) → ((line : List ℕ) → is_record line ≡ true → f line ≤ most) → (lines : Lines) → all is_record lines ≡ true
@@ -89,24 +90,22 @@ module _ (lines : Lines) (k : ℕ) (h : k < length lines) where
       omega (arith, ap length printed-more, length-append (printed_records before) (line ++ (10 ∷ [])), length-append line (10 ∷ []))
 
   -- one more number in a column
-  column_more : (f : List ℕ → ℕ) (in_it : Worth → ℕ) (ws : List Worth) (w : Worth) → k < length ws → map in_it (take k ws) ≡ map f before
-      → in_it w ≡ f line → map in_it (take (k + 1) (set ws k w)) ≡ map f (take (k + 1) lines)
-  column_more f in_it ws w inside e is =
-      ap (λ n. map in_it (take n (set ws k w))) (add-one k)
-      ∙ ap (map in_it) (take-suc-set ws k w inside)
-      ∙ map-append in_it (take k ws) (w ∷ [])
+  column_more : (f : List ℕ → ℕ) (in_it : Worth → ℕ) (ws : List Worth) (w : Worth) → map in_it ws ≡ map f before → in_it w ≡ f line
+      → map in_it (ws ++ (w ∷ [])) ≡ map f (take (k + 1) lines)
+  column_more f in_it ws w e is =
+      map-append in_it ws (w ∷ [])
       ∙ ap₂ {C = List ℕ} (λ l y. l ++ (y ∷ [])) e is
       ∙ sym (ap (map f) next-lines ∙ map-append f before (line ∷ []))
 
   -- a line put behind those before it
-  lines_more : (output middle after : List ℕ) (put-to end : ℕ) → LinesPut before output middle put-to → RecordPut middle after put-to line end
-      → LinesPut (take (k + 1) lines) output after end
-  lines_more output middle after put-to end p r =
+  lines_more : (output middle after : List ℕ) (put-to end : ℕ) → LinesPut before output middle put-to
+      → after ≡ splice middle put-to (line ++ (10 ∷ [])) → end ≡ put-to + length line + 1 → LinesPut (take (k + 1) lines) output after end
+  lines_more output middle after put-to end p bytes ends =
       let at : put-to ≡ 0 + length (printed_records before) = omega (arith, p.ends) in
       record {
-        ends = r.ends ∙ size_more put-to (length line) p.ends refl;
+        ends = ends ∙ size_more put-to (length line) p.ends refl;
         bytes =
-            r.bytes
+            bytes
             ∙ ap₂ {C = List ℕ} (λ l n. splice l n (line ++ (10 ∷ []))) p.bytes at
             ∙ splice-behind output 0 (printed_records before) (line ++ (10 ∷ [])) (omega arith)
             ∙ ap (splice output 0) printed-more;
@@ -121,14 +120,15 @@ all_lines lines k e = take_all k lines (omega arith)
 
 -- what the first lines add, and the bytes that they are printed in
 pub record FilledTo (lines : Lines) (worths : List Worth) (bytes k : ℕ) : Type 0 where
-  pub currency_to : codes_in (take k worths) ≡ map currency_code_in (take k lines)
-  pub weight_to : tonnes_in (take k worths) ≡ map tonnes_of (take k lines)
-  pub cents_to : values_in (take k worths) ≡ map value_of (take k lines)
+  pub currency_to : codes_in worths ≡ map currency_code_in (take k lines)
+  pub weight_to : tonnes_in worths ≡ map tonnes_of (take k lines)
+  pub cents_to : values_in worths ≡ map value_of (take k lines)
   pub size_to : bytes ≡ length (printed_records (take k lines))
 
-pub filled_none : (lines : Lines) (worths : List Worth) → FilledTo lines worths 0 0
+pub filled_none : (lines : Lines) (worths : List Worth) → worths ≡ [] → FilledTo lines worths 0 0
 unfolding printed_records
-filled_none lines worths = record { currency_to = refl; weight_to = refl; cents_to = refl; size_to = refl }
+filled_none lines worths e =
+    record { currency_to = ap (map (λ w. w.code)) e; weight_to = ap (map (λ w. w.tonnes)) e; cents_to = ap (map (λ w. w.value)) e; size_to = refl }
 
 -- A register of n lines, and its line of a place.
 module _ (buffer : List ℕ) (n : ℕ) (c : LinesCounted buffer n) where
@@ -157,27 +157,26 @@ module _ (buffer : List ℕ) (n : ℕ) (c : LinesCounted buffer n) where
   lines_small = omega (arith, report_small, ap length report-is, length-append (printed_records held) (printed_records (total_lines held)))
 
   -- all lines are weighed
-  pub filled-all : (worths : List Worth) (bytes : ℕ) → length worths ≡ most_lines → FilledTo held worths bytes n → LinesWeighed held n worths bytes
-  filled-all worths bytes room f =
-      let whole = all_lines held n c.count in
-      record {
-        room = omega (arith, count_few, room);
-        columns = record {
+  module _ (worths : List Worth) (bytes : ℕ) (f : FilledTo held worths bytes n) where
+    whole : take n held ≡ held
+    whole = all_lines held n c.count
+
+    pub filled_columns : WorthsOf held worths
+    filled_columns =
+        record {
           few = few;
           good = good;
           currency = f.currency_to ∙ ap (map currency_code_in) whole;
           weight = f.weight_to ∙ ap (map tonnes_of) whole;
           cents = f.cents_to ∙ ap (map value_of) whole;
-        };
-        size = f.size_to ∙ ap (λ l. length (printed_records l)) whole;
-      }
+        }
+
+    pub filled_size : bytes ≡ length (printed_records held)
+    filled_size = f.size_to ∙ ap (λ l. length (printed_records l)) whole
 
   module _ (k : ℕ) (h : k < n) where
     inside : k < length held
     inside = omega (arith, c.count)
-
-    pub placed : Placed buffer k
-    placed = record { keeps = c.keeps; inside = inside }
 
     module _ (slice : List ℕ) (is : slice ≡ line_at held k) where
       pub line_good : is_record slice ≡ true
@@ -189,15 +188,27 @@ module _ (buffer : List ℕ) (n : ℕ) (c : LinesCounted buffer n) where
         pub bytes_fit : bytes + length slice + 1 ≤ most_report
         bytes_fit = omega (arith, ap length is, f.size_to, size_within held k inside, lines_small)
 
-        pub line-filled : length worths ≡ most_lines → (w : Worth) → Weighed slice w → FilledTo held (set worths k w) (bytes + length slice + 1) (k + 1)
-        line-filled room w m =
-            let here : k < length worths = omega (arith, count_few, room) in
-            record {
-              currency_to = column_more held k inside currency_code_in (λ v. v.code) worths w here f.currency_to (m.currency ∙ ap currency_code_in is);
-              weight_to = column_more held k inside tonnes_of (λ v. v.tonnes) worths w here f.weight_to (m.weight ∙ ap tonnes_of is);
-              cents_to = column_more held k inside value_of (λ v. v.value) worths w here f.cents_to (m.cents ∙ ap value_of is);
-              size_to = size_more held k inside bytes (length slice) f.size_to (ap length is);
-            }
+        pub worths_few : length worths < most_lines
+        worths_few =
+            omega (
+              arith,
+              ap length f.currency_to,
+              length-map worths (λ w. w.code),
+              length-map (take k held) currency_code_in,
+              length-take-le k held (omega (arith, inside)),
+              count_few,
+            )
+
+        pub line-filled : (more : List Worth) (w : Worth) → more ≡ worths ++ (w ∷ []) → Weighed slice w
+            → FilledTo held more (bytes + (length slice + 1)) (k + 1)
+        line-filled more w e m =
+            subst (λ ws. FilledTo held ws (bytes + (length slice + 1)) (k + 1)) (sym e)
+            (record {
+              currency_to = column_more held k inside currency_code_in (λ v. v.code) worths w f.currency_to (m.currency ∙ ap currency_code_in is);
+              weight_to = column_more held k inside tonnes_of (λ v. v.tonnes) worths w f.weight_to (m.weight ∙ ap tonnes_of is);
+              cents_to = column_more held k inside value_of (λ v. v.value) worths w f.cents_to (m.cents ∙ ap value_of is);
+              size_to = omega (arith, size_more held k inside bytes (length slice) f.size_to (ap length is));
+            })
 
       -- the line put behind those before it: there is room
       module _ (output middle : List ℕ) (put-to : ℕ) (p : LinesPut (take k held) output middle put-to)
@@ -213,9 +224,11 @@ module _ (buffer : List ℕ) (n : ℕ) (c : LinesCounted buffer n) where
               length-splice output 0 (printed_records (take k held)) (omega arith),
             )
 
-        pub line-put : (after : List ℕ) (to : ℕ) → RecordPut middle after put-to slice to → LinesPut (take (k + 1) held) output after to
-        line-put after to r =
-            lines_more held k inside output middle after put-to to p (subst (λ l. RecordPut middle after put-to l to) is r)
+        pub line-put : (after : List ℕ) (to : ℕ) → after ≡ splice middle put-to (slice ++ (10 ∷ [])) → to ≡ put-to + length slice + 1
+            → LinesPut (take (k + 1) held) output after to
+        line-put after to bytes ends =
+            lines_more held k inside output middle after put-to to p (bytes ∙ ap (λ l. splice middle put-to (l ++ (10 ∷ []))) is)
+            (ends ∙ ap (λ l. put-to + length l + 1) is)
 
   -- The report put together: its size, where it doesn't fit, and what is left where it does.
   module _ (totals : List ℕ) (r : Sizes) (m : TotalsMade held totals r) where
@@ -276,8 +289,8 @@ unfolding putting_nothing
 report_refuses buffer output e = sym (report_refused buffer output e)
 
 -- so what reading turns down
-pub report_unopened : (buffer keys output : List ℕ) (refusal : Refusal) → OpenedRead buffer keys (Err refusal)
+pub report_unopened : (buffer output : List ℕ) (refusal : Refusal) → OpenedRead buffer (Err refusal)
     → report_back (refusal_number refusal) output 0 ≡ report_call buffer output
-report_unopened buffer keys output refusal read =
-    let r = opened_refused buffer keys refusal read in
+report_unopened buffer output refusal read =
+    let r = opened_refused buffer refusal read in
     ap (λ k. report_back (refusal_number k) output 0) r.0 ∙ report_refuses buffer output r.1

@@ -1,5 +1,5 @@
--- The sums of a code, a record and a TOTAL line put, and the TOTAL lines of all currencies. Assumes nothing.
-use Rattle.std.specs.Prelude.{true, false, ◌≡◌, leb, take, set}
+-- The sums of a code, a TOTAL line put, and the TOTAL lines of all currencies. Assumes nothing.
+use Rattle.std.specs.Prelude.{true, false, ◌≡◌, leb, take}
 use mathlib.Core.List.{List, [], ◌∷◌, ◌++◌, append_assoc, map, map-append}
 use Rattle.std.proofs.Math.Path.{refl, ap, ap₂, subst}
 use Rattle.std.proofs.Common.{sym, ◌∙◌, zero-add, add-one, arith, length-append, take_all, take-suc}
@@ -12,7 +12,6 @@ use Rattle.base.specs.Choice.{test_cases}
 use Rattle.base.specs.ListLaws.{all_inside}
 use Rattle.base.specs.Lists.{total}
 use Rattle.base.specs.Text.{bytes}
-use Rattle.encoding.specs.Splices.{splice, length-splice, set-splice, splice-behind}
 use Rattle.cards.specs.Bytes.{newline}
 use Rattle.printing.specs.Printing.{Put, numbers_text}
 use Rattle.printing.specs.PrintLaws.{put-behind}
@@ -26,7 +25,7 @@ use Rattle.register_report.specs.CodeLaws.{code_range, code_word, codes_of, coun
 use Rattle.register_report.specs.CodeLaws.{first_code, lowest_within, next_code_lem, sum-lines, sum-next, sum_small}
 use Rattle.register_report.specs.Codes.{currency_code_in, currency_code, code_count, lowest_code, no_code, sum_of, word_of}
 use Rattle.register_report.specs.declared.Sums.{Sums}
-use Rattle.register_report.specs.Sums.{Columns, ColumnsFit, RecordPut, Summed, TotalsPut, WorthsFit, codes_in, most_total, tonnes_in, total_text, totals_from, values_in}
+use Rattle.register_report.specs.Sums.{Columns, ColumnsFit, Summed, TotalsPut, WorthsFit, codes_in, most_total, tonnes_in, total_text, totals_from, values_in}
 
 -- The sums of a code over the first places: with those of the places left they are the sums of all.
 pub record SummedTo (code : ℕ) (codes tonnes values : List ℕ) (count weight value k : ℕ) : Type 0 where
@@ -146,17 +145,6 @@ module _ (code : ℕ) (worths : List Worth) (fit : WorthsFit worths) (count weig
   pub line_past : ¬ (added.code ≡ code) → SummedTo code (codes_in worths) (tonnes_in worths) (values_in worths) count weight value (k + 1)
   line_past other =
       summed_past code (codes_in worths) (tonnes_in worths) (values_in worths) fit count weight value k s inside-codes (λ e. other (sym code-here ∙ e))
-
--- a record, and byte 10 behind it
-pub record_put : (output : List ℕ) (at : ℕ) (v : List ℕ) → at + length v < length output
-    → RecordPut output (set (splice output at v) (at + length v) 10) at v (at + length v + 1)
-record_put output at v h =
-    record {
-      ends = refl;
-      bytes =
-          set-splice (splice output at v) (at + length v) 10 (omega (arith, length-splice output at v (omega arith)))
-          ∙ splice-behind output at v (10 ∷ []) (omega arith);
-    }
 
 -- the TOTAL line of a code
 pub total-put : (code : ℕ) (s : Sums) (before after : List ℕ) (at end : ℕ)

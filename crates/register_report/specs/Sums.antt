@@ -1,5 +1,5 @@
 -- What the code says of a report's parts. Assumes nothing.
-use Rattle.std.specs.Prelude.{true, List, [], ◌∷◌, ◌++◌, map, ◌≡◌, ℕ, ◌+◌, ◌*◌, ◌≤◌, leb, length, take, drop}
+use Rattle.std.specs.Prelude.{true, List, [], ◌∷◌, map, ◌≡◌, ℕ, ◌+◌, ◌≤◌, leb, length, take, drop}
 use Rattle.base.specs.Lists.{all}
 use Rattle.encoding.specs.Splices.{splice}
 use Rattle.cards.specs.Bytes.{is_digit}
@@ -9,6 +9,8 @@ use Rattle.register.specs.LineLaws.{first_field}
 use Rattle.register.specs.Register.{Lines, most_lines}
 use Rattle.register.specs.Report.{Totals, tonnes_of, value_of, total_line, total_lines, printed_records}
 use Rattle.register.specs.ReportLaws.{most_value}
+use Rattle.std.specs.Prelude.{Result, Ok, Err}
+use Rattle.register.specs.declared.Refusal.{Refusal}
 use Rattle.register_report.specs.Codes.{currency_code_in, code_count, sum_of, word_of}
 use Rattle.register_report.specs.declared.Field.{Field}
 use Rattle.register_report.specs.declared.Sizes.{Sizes}
@@ -68,12 +70,6 @@ WorthsFit worths = ColumnsFit (codes_in worths) (tonnes_in worths) (values_in wo
 abbrev pub WorthsOf : (lines : Lines) (worths : List Worth) → Type 0
 WorthsOf lines worths = Columns lines (codes_in worths) (tonnes_in worths) (values_in worths)
 
--- what n lines add, and the bytes that they are printed in
-pub record LinesWeighed (lines : Lines) (n : ℕ) (worths : List Worth) (bytes : ℕ) : Type 0 where
-  pub room : n ≤ length worths
-  pub columns : WorthsOf lines (take n worths)
-  pub size : bytes ≡ length (printed_records lines)
-
 -- the sums of a code
 pub record Summed (code : ℕ) (codes tonnes values : List ℕ) (r : Sums) : Type 0 where
   pub number : r.count ≡ code_count code codes
@@ -91,12 +87,9 @@ longest_total = 73
 unfoldable pub total_text : (code : ℕ) → Sums → List ℕ
 total_text code s = printed_records (total_line (word_of code) (totals_from s) ∷ [])
 
--- the most bytes of a TOTAL line of a register with its byte 10; room for all of them, and for one more of any numbers
+-- the most bytes of a TOTAL line of a register with its byte 10
 abbrev pub most_total : ℕ
 most_total = 38
-
-abbrev pub totals_room : ℕ
-totals_room = most_total * most_lines + longest_total
 
 -- the TOTAL lines of some lines stand at the start
 pub record TotalsPut (lines : Lines) (out : List ℕ) (end : ℕ) : Type 0 where
@@ -112,12 +105,12 @@ pub record TotalsMade (lines : Lines) (out : List ℕ) (r : Sizes) : Type 0 wher
   pub size : r.lines ≡ length (printed_records lines)
   pub put : TotalsPut lines out r.totals
 
--- a record with its byte 10 was put from a place on
-pub record RecordPut (before after : List ℕ) (at : ℕ) (line : List ℕ) (end : ℕ) : Type 0 where
-  pub ends : end ≡ at + length line + 1
-  pub bytes : after ≡ splice before at (line ++ (10 ∷ []))
-
 -- lines were printed at the start
 pub record LinesPut (lines : Lines) (before after : List ℕ) (end : ℕ) : Type 0 where
   pub ends : end ≡ length (printed_records lines)
   pub bytes : after ≡ splice before 0 (printed_records lines)
+
+-- how long the report is that was put, nothing where it was refused
+abbrev pub size_in : Result ℕ Refusal → ℕ
+size_in (Ok size) = size
+size_in (Err refusal) = 0

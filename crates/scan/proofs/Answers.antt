@@ -10,7 +10,6 @@ use Rattle.scanning.specs.Trials.{Tried, found, few, settled, slide, match, answ
 use Rattle.scanning.specs.Call.{most_elements, split_numbers, answer_numbers}
 use Rattle.scan.specs.Rows.{row_element, scan_elements, pattern_of, size_of, sizes_at}
 use Rattle.scan.specs.Rows.{row_answer}
-use Rattle.scan.specs.Steps.{outcome, RunFound, RunFailed}
 use Rattle.scan.specs.declared.Element.TheVariants.{Free}
 use Rattle.scan.proofs.Rows.{sizes-split, sizes_last, sizes-length}
 
@@ -73,6 +72,17 @@ row-filled rows i v h e =
     ∙ ap (λ (n : ℕ). 0 ∷ (0 ∷ (0 ∷ (0 ∷ ((ls ++ (n ∷ [])) ++ zs))))) e
     ∙ ap (λ (l : List ℕ). 0 ∷ (0 ∷ (0 ∷ (0 ∷ (l ++ zs))))) (sym (sizes_last rows i))
 
+-- the scan's outcome
+abbrev pub outcome : (reference values rows : List ℕ) → ℕ → Tried
+outcome reference values rows count = slide (match (pattern_of values rows count)) reference
+
+-- the run found a row of lengths, after n trials
+pub record RunFound (reference values rows : List ℕ) (count : ℕ) (answer : List ℕ) (n : ℕ) : Type 0 where
+  pub row : List ℕ
+  pub same : outcome reference values rows count ≡ found row n
+  pub left : answer ≡ row_answer count row
+  pub size : length row ≡ suc count
+
 module _ (reference values rows : List ℕ) (count : ℕ) where
   -- the numbers left where the run found a row
   pub scan-found : (answer : List ℕ) (n : ℕ) → RunFound reference values rows count answer n
@@ -84,10 +94,10 @@ module _ (reference values rows : List ℕ) (count : ℕ) where
       ∙ ap (λ (t : Tried). answer_numbers 0 (answered t)) (sym r.same)
 
   -- where it failed
-  pub scan_failed : (n : ℕ) → RunFailed reference values rows count n
+  pub scan_failed : (n : ℕ) → outcome reference values rows count ≡ few n
       → split_numbers none n 0 ≡ answer_numbers 0 (scan (pattern_of values rows count) reference)
   unfolding scan
-  scan_failed n r = answer_few n ∙ ap (λ (t : Tried). answer_numbers 0 (answered t)) (sym r.same)
+  scan_failed n same = answer_few n ∙ ap (λ (t : Tried). answer_numbers 0 (answered t)) (sym same)
 
 -- a pattern of no elements is found at place 0
 none_found : (reference values rows : List ℕ) → outcome reference values rows 0 ≡ found (0 ∷ []) 0
@@ -109,5 +119,4 @@ scan_none reference values rows count answer z e =
           ∙ ap (λ (n : ℕ). found (0 ∷ sizes_at rows n 0) 0) (sym z);
       left = e;
       size = ap suc (sizes-length rows count 0);
-      small = omega arith;
     }

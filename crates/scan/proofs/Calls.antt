@@ -1,101 +1,108 @@
 -- The call: rows of bytes read as elements, the pattern they make, and the promise. Assumes nothing.
-use mathlib.Core.Bool.{Bool, true, false, cond}
+use mathlib.Core.Bool.{Bool, true, false, cond, ◌&&◌}
 use Rattle.std.specs.Prelude.{None, Some}
-use mathlib.Core.List.{List, [], ◌∷◌, ◌++◌, append_assoc, append-nil}
+use Rattle.std.specs.List.{concat, list_all}
+use Rattle.std.specs.Option.{is_some}
+use mathlib.Core.List.{List, [], ◌∷◌, ◌++◌}
 use mathlib.Core.Option.{Option, none, some}
-use mathlib.Core.Path.{◌≡◌, refl, sym, ◌∙◌, ap, subst}
-use Prim.Native.Nat.{ℕ, zero, suc, ◌+◌, ◌*◌, ◌-◌, ◌≤◌, ◌<◌, ◌^◌}
+use mathlib.Core.Path.{◌≡◌, refl, sym, ◌∙◌, ap, ap₂, subst}
+use Prim.Native.Nat.{ℕ, zero, suc, ◌+◌, ◌*◌, ◌-◌, ◌/◌, ◌%◌, ◌≤◌, ◌<◌, ◌^◌}
 use native.Mathlib.Omega.{arith}
 use lib.Dec.{leb, ltb, eqb}
-use lib.ListN.{length, get_or, set, replicate}
-use lib.Seq.{take_at}
-use borrow.Author.Count.{below_more}
-use borrow.Author.Tests.{eq-eqb, le-leb, lt-leb, lt-ltb, le-ltb}
+use lib.ListN.{length, get_or, take, drop, replicate}
+use lib.Seq.{take_at, take_all, length-take-le, drop-cons}
+use Rattle.std.specs.Simd.{first_chunks}
+use Rattle.std.proofs.Common.{drop_of_length-le}
+use Rattle.std.proofs.lemmas.List.Elements.{All-get_or}
+use Rattle.std.proofs.lemmas.List.Sums.{AllPass-from_list_all}
+use borrow.Author.Tests.{leb-true, le-leb, lt-leb, lt-ltb, le-ltb}
+use Rattle.base.specs.Choice.{both_true}
 use Rattle.scanning.specs.Splits as Splits
 use Rattle.scanning.specs.Splits.{Split, free, FirstFit, AnswersFirstFit}
 use Rattle.scanning.specs.Kinds.{row_kind_of}
 use Rattle.scanning.specs.declared.RowKind.{RowKind}
-use Rattle.std.proofs.lemmas.Option.{none-some}
-use Rattle.scanning.specs.declared.Refusal.{Refusal}
-use Rattle.scanning.specs.declared.Refusal.TheVariants.{NoElement}
 use Rattle.scanning.specs.Trials.{scan}
 use Rattle.scanning.specs.Laws.{fits_count}
 use Rattle.scanning.specs.FirstFit.{scan_first_fit}
 use Rattle.scanning.specs.Call.{longest_reference, most_elements, scan_row_size, number4, row_count, string_of_row, fixed_by, element_of_row}
 use Rattle.scanning.specs.Call.{no_answer, join_element, elements_of_rows, pattern_of_rows, split_numbers, answer_numbers, Called, scan_turned_down, scan_with, scan_call}
 use Rattle.scanning.specs.Call.{split_in, ScanPromise}
-use Rattle.scan.specs.Rows.{scan_row, scan_row_at, row_element, scan_element, scan_elements, pattern_of, size_of, sizes_at, RowGood, RowIs, row_answer, RowsAre, RowsRefused}
-use Rattle.scan.proofs.Answers.{row-filled}
+use Rattle.scan.specs.Rows.{scan_row, scan_row_at, row_element, scan_element, scan_elements, pattern_of, RowGood, GoodRows, WholeRows, GoodPattern, held, is_element}
+use Rattle.scan.proofs.Chunks.{concat_length, concat_row, concat_element, chunks_whole, chunks_concat, take_row}
 use Rattle.scan.specs.declared.Element.{Element}
 use Rattle.scan.specs.declared.Element.TheVariants.{Part, Fixed, Free}
 
-module _ (values elements : List ℕ) (at : ℕ) where
-  -- a row that is an element
-  row_is : {e : Element} → e ≡ scan_row_at elements at → element_of_row values elements at ≡ some (scan_element values (scan_row_at elements at))
-      → RowGood values (scan_row_at elements at) → at + 12 ≤ length elements → RowIs values elements at e
-  row_is e h g l =
-      record {
-        read = e;
-        same = h ∙ ap (λ (x : Element). some (scan_element values x)) (sym e);
-        good = subst (RowGood values) (sym e) g;
-        room = l;
-      }
+held_cond : (b : Bool) (e : Splits.Element) → held (cond b (some e) none) ≡ b
+unfolding held
+held_cond true e = refl
+held_cond false e = refl
 
-  pub element_short : at ≤ length elements → length elements - at < 12 → element_of_row values elements at ≡ none
+-- whether what an element holds lies within: a part's ends in order and in the values, a length not negative
+unfoldable pub lies : List ℕ → Element → Bool
+lies values (Part from to) = leb from to && leb to (length values)
+lies values (Fixed n) = ltb n (2 ^ 31)
+lies values Free = true
+
+-- the numbers of 4 bytes each are below 2^32
+number_bound : (b : List ℕ) → ((i : ℕ) → get_or b i 0 < 256) → (at : ℕ) → number4 b at < 2 ^ 32
+unfolding number4
+number_bound b bytes at = omega (arith, bytes at, bytes (at + 1), bytes (at + 2), bytes (at + 3))
+
+-- an element that lies within is good
+lies_good : (values : List ℕ) (kind a b : ℕ) → a < 2 ^ 32 → b < 2 ^ 32 → lies values (scan_row kind a b) ≡ true → RowGood values (scan_row kind a b)
+unfolding scan_row lies RowGood
+lies_good values kind a b low high = by (eqb kind 1) (eqb kind 2)
+  where
+    by : (x y : Bool) → lies values (cond x (Part a b) (cond y (Fixed a) Free)) ≡ true → RowGood values (cond x (Part a b) (cond y (Fixed a) Free))
+    by true y h =
+        let ends = both_true (leb a b) (leb b (length values)) h in
+        record { order = leb-true a b ends.0; inside = leb-true b (length values) ends.1; small = high }
+    by false true h = low
+    by false false h = tt
+
+-- the element of a row, told by its kind and by what it holds
+module _ (values b : List ℕ) (at : ℕ) where
+  abbrev told : Bool
+  told = is_some (row_kind_of (get_or b at 0)) && lies values (scan_row_at b at)
+
+  abbrev found : Bool → Option Splits.Element
+  found t = cond t (some (scan_element values (scan_row_at b at))) none
+
+  pub row_read : at + 12 ≤ length b → element_of_row values b at ≡ found told
+  unfolding element_of_row scan_row_size string_of_row fixed_by scan_row_at scan_row scan_element lies
+  row_read room = rw (le-leb (at + 12) (length b) room) (by (eqb (get_or b at 0) 1) (eqb (get_or b at 0) 2) (eqb (get_or b at 0) 3))
+    where
+      from : ℕ
+      from = number4 b (at + 4)
+
+      to : ℕ
+      to = number4 b (at + 8)
+
+      by : (x y z : Bool)
+          → cond x (string_of_row values from to) (cond y (fixed_by from) (cond z (some free) none))
+          ≡ cond (is_some (cond x (Some RowKind.String) (cond y (Some RowKind.Fixed) (cond z (Some RowKind.Free) None)))
+          && lies values (cond x (Part from to) (cond y (Fixed from) Free)))
+          (some (scan_element values (cond x (Part from to) (cond y (Fixed from) Free)))) none
+      by true y z = refl
+      by false true z = refl
+      by false false true = refl
+      by false false false = refl
+
+  pub row_cut : length b < at + 12 → element_of_row values b at ≡ none
   unfolding element_of_row scan_row_size
-  element_short h g = rw (lt-leb (at + 12) (length elements) (omega arith))
+  row_cut h = rw (lt-leb (at + 12) (length b) h)
 
-  module _ (room : 12 ≤ length elements - at) where
-    abbrev kind : ℕ
-    kind = get_or elements at 0
+  -- whether it is one
+  pub row_is : at + 12 ≤ length b → held (element_of_row values b at) ≡ told
+  row_is room = ap held (row_read room) ∙ held_cond told (scan_element values (scan_row_at b at))
 
-    abbrev from : ℕ
-    from = number4 elements (at + 4)
-
-    abbrev to : ℕ
-    to = number4 elements (at + 8)
-
-    in_row : leb (at + 12) (length elements) ≡ true
-    in_row = le-leb (at + 12) (length elements) (omega arith)
-
-    pub string_disordered : kind ≡ 1 → to < from → element_of_row values elements at ≡ none
-    unfolding element_of_row scan_row_size string_of_row
-    string_disordered k h = rw (in_row, eq-eqb kind 1 k, lt-leb from to h)
-
-    pub string_outside : kind ≡ 1 → from ≤ to → length values < to → element_of_row values elements at ≡ none
-    unfolding element_of_row scan_row_size string_of_row
-    string_outside k h g = rw (in_row, eq-eqb kind 1 k, le-leb from to h, lt-leb to (length values) g)
-
-    pub string_told : kind ≡ 1 → to < 2 ^ 32 → from ≤ to → to ≤ length values → RowIs values elements at (Part from to)
-    unfolding element_of_row scan_row_size string_of_row scan_row_at scan_row scan_element RowGood
-    string_told k small h g =
-        row_is (rw (eq-eqb kind 1 k)) (rw (in_row, eq-eqb kind 1 k, le-leb from to h, le-leb to (length values) g))
-        (rw (eq-eqb kind 1 k) (record { order = h; inside = g; small = small }))
-        (omega arith)
-
-    pub fixed_bad : kind ≡ 2 → 2 ^ 31 ≤ from → element_of_row values elements at ≡ none
-    unfolding element_of_row scan_row_size fixed_by
-    fixed_bad k h = rw (in_row, k, le-ltb from (2 ^ 31) h)
-
-    pub fixed_told : kind ≡ 2 → from < 2 ^ 31 → RowIs values elements at (Fixed from)
-    unfolding element_of_row scan_row_size fixed_by scan_row_at scan_row scan_element RowGood
-    fixed_told k h = row_is (rw k) (rw (in_row, k, lt-ltb from (2 ^ 31) h)) (rw k (omega arith)) (omega arith)
-
-    pub free_told : kind ≡ 3 → RowIs values elements at Free
-    unfolding element_of_row scan_row_size scan_row_at scan_row scan_element RowGood
-    free_told k = row_is (rw k) (rw (in_row, k)) (rw k tt) (omega arith)
-
-    pub kind_unknown : row_kind_of kind ≡ None → element_of_row values elements at ≡ none
-    unfolding element_of_row scan_row_size
-    kind_unknown h = rw in_row (by (eqb kind 1) (eqb kind 2) (eqb kind 3) h)
-      where
-        by : (a b c : Bool)
-            → cond a (Some RowKind.String) (cond b (Some RowKind.Fixed) (cond c (Some RowKind.Free) None)) ≡ None
-            → cond a (string_of_row values from to) (cond b (fixed_by from) (cond c (some free) none)) ≡ none
-        by true b c e = absurd (none-some _ (sym e))
-        by false true c e = absurd (none-some _ (sym e))
-        by false false true e = absurd (none-some _ (sym e))
-        by false false false e = refl
+-- a row that is an element holds a good one
+pub element_good : (values row : List ℕ) → length row ≡ 12 → ((i : ℕ) → get_or row i 0 < 256) → is_element values row ≡ true
+    → RowGood values (scan_row_at row 0)
+unfolding is_element scan_row_at
+element_good values row size bytes is =
+    let both = both_true (is_some (row_kind_of (get_or row 0 0))) (lies values (scan_row_at row 0)) (sym (row_is values row 0 (omega arith)) ∙ is) in
+    lies_good values (get_or row 0 0) (number4 row 4) (number4 row 8) (number_bound row bytes 4) (number_bound row bytes 8) both.1
 
 -- one row more
 pub elements-more : (values rows : List ℕ) (n i : ℕ)
@@ -110,124 +117,155 @@ elements-more values rows (suc n) i =
     (elements-more values rows n (i + 1)
     ∙ ap (λ (k : ℕ). scan_elements values rows n (i + 1) ++ (scan_element values (row_element rows k) ∷ [])) e)
 
--- elements read before the others
-pub prefixed : List Splits.Element → Option (List Splits.Element) → Option (List Splits.Element)
-prefixed p none = none
-prefixed p (some q) = some (p ++ q)
+-- an element before others, where each may be none
+join_told : (a b : Bool) (e : Splits.Element) (p : List Splits.Element)
+    → join_element (cond a (some e) none) (cond b (some p) none) ≡ cond (a && b) (some (e ∷ p)) none
+unfolding join_element
+join_told true true e p = refl
+join_told true false e p = refl
+join_told false b e p = refl
 
-prefixed_nil : (o : Option (List Splits.Element)) → o ≡ prefixed [] o
-unfolding prefixed
-prefixed_nil none = refl
-prefixed_nil (some q) = refl
+join_none : (o : Option Splits.Element) → join_element o none ≡ none
+unfolding join_element
+join_none none = refl
+join_none (some e) = refl
 
-prefixed_more : (p : List Splits.Element) (e : Splits.Element) (o : Option (List Splits.Element))
-    → prefixed p (join_element (some e) o) ≡ prefixed (p ++ (e ∷ [])) o
-unfolding prefixed join_element
-prefixed_more p e none = refl
-prefixed_more p e (some q) = ap some (sym (append_assoc p (e ∷ []) q))
+module _ (values : List ℕ) (rows : List (List ℕ)) (whole : WholeRows rows) where
+  -- n rows from row i on: the pattern where all are elements, none where one is not
+  rows_from : (n i : ℕ) → i + n ≡ length rows
+      → elements_of_rows values (concat rows) n (12 * i)
+      ≡ cond (list_all (is_element values) (drop i rows)) (some (scan_elements values (concat rows) n i)) none
+  unfolding elements_of_rows scan_elements scan_row_size is_element
+  rows_from zero i e =
+      let none_left : drop i rows ≡ [] = drop_of_length-le rows {i = i} (omega arith) in
+      ap (λ l. cond (list_all (is_element values) l) (some []) none) (sym none_left)
+  rows_from (suc n) i e =
+      let inside : i < length rows = omega arith in
+      let row : List ℕ = get_or rows i [] in
+      let fits : 0 + 12 ≤ length row = omega (arith, whole i inside) in
+      let flat : List ℕ = concat rows in
+      let behind : List (List ℕ) = drop (i + 1) rows in
+      let p : List Splits.Element = scan_elements values flat n (i + 1) in
+      let one : suc i ≡ i + 1 = omega arith in
+      let further : 12 * i + 12 ≡ 12 * (i + 1) = omega arith in
+      let next : drop i rows ≡ row ∷ behind = drop-cons rows i [] inside ∙ ap (λ (m : ℕ). row ∷ drop m rows) one in
+      let this : element_of_row values flat (12 * i) ≡ cond (is_element values row) (some (scan_element values (row_element flat i))) none =
+      sym (concat_element rows whole i inside values)
+      ∙ row_read values row 0 fits
+      ∙ ap (λ (b : Bool). cond b (some (scan_element values (scan_row_at row 0))) none) (sym (row_is values row 0 fits))
+      ∙ ap (λ (x : Element). cond (is_element values row) (some (scan_element values x)) none) (concat_row rows whole i inside) in
+      ap (λ o. join_element o (elements_of_rows values flat n (12 * i + 12))) this
+      ∙ ap (λ (m : ℕ). join_element (cond (is_element values row) (some (scan_element values (row_element flat i))) none) (elements_of_rows values flat n m))
+      further
+      ∙ ap (join_element (cond (is_element values row) (some (scan_element values (row_element flat i))) none)) (rows_from n (i + 1) (omega arith))
+      ∙ join_told (is_element values row) (list_all (is_element values) behind) (scan_element values (row_element flat i)) p
+      ∙ ap (λ l. cond (list_all (is_element values) l) (some (scan_element values (row_element flat i) ∷ p)) none) (sym next)
 
--- the first i rows were read
-pub record Reading (values elements : List ℕ) (count : ℕ) (answer : List ℕ) (i : ℕ) : Type 0 where
-  pub high : i ≤ count
-  pub room : 12 * i ≤ length elements
-  pub good : (j : ℕ) → j < i → RowGood values (row_element elements j)
-  pub same : pattern_of_rows values elements ≡ prefixed (scan_elements values elements i 0) (elements_of_rows values elements (count - i) (12 * i))
-  pub left : answer ≡ row_answer i (0 ∷ sizes_at elements i 0)
+  pub rows_read : pattern_of_rows values (concat rows)
+      ≡ cond (list_all (is_element values) rows) (some (pattern_of values (concat rows) (length rows))) none
+  unfolding pattern_of_rows row_count scan_row_size pattern_of
+  rows_read =
+      ap (λ (n : ℕ). elements_of_rows values (concat rows) n 0) (omega (arith, concat_length rows whole)) ∙ rows_from (length rows) 0 (omega arith)
 
-module _ {values elements : List ℕ} {count : ℕ} (counted : count ≡ row_count elements) where
-  pub read-begins : {answer : List ℕ} → answer ≡ row_answer 0 (0 ∷ []) → Reading values elements count answer 0
-  unfolding pattern_of_rows scan_elements sizes_at
-  read-begins left =
-      let e : row_count elements ≡ count - 0 = omega arith in
+  pub rows_good : length rows ≤ 20 → ((i : ℕ) → get_or (concat rows) i 0 < 256) → list_all (is_element values) rows ≡ true → GoodPattern values rows
+  unfolding is_element row_element scan_row_at
+  rows_good few bytes all =
       record {
-        high = omega arith;
-        room = omega arith;
-        good = λ j h. absurd (omega arith);
-        same =
-            ap (λ (n : ℕ). elements_of_rows values elements n 0) e ∙ prefixed_nil (elements_of_rows values elements (count - 0) 0);
-        left = left;
+        whole = whole;
+        good = record { few = few; room = omega (arith, concat_length rows whole); good = each };
+      }
+    where
+      each : (i : ℕ) → i < length rows → RowGood values (row_element (concat rows) i)
+      each i inside =
+          let flat : List ℕ = concat rows in
+          let row : List ℕ = get_or rows i [] in
+          let passes : is_element values row ≡ true =
+          All-get_or (λ r. is_element values r ≡ true) rows i [] inside (AllPass-from_list_all (is_element values) rows all) in
+          let both = both_true (is_some (row_kind_of (get_or row 0 0))) (lies values (scan_row_at row 0)) (sym (row_is values row 0 (omega (arith, whole i inside))) ∙ passes) in
+          lies_good values (get_or flat (12 * i) 0) (number4 flat (12 * i + 4)) (number4 flat (12 * i + 8))
+          (number_bound flat bytes (12 * i + 4)) (number_bound flat bytes (12 * i + 8))
+          (ap (lies values) (sym (concat_row rows whole i inside)) ∙ both.1)
+
+-- a last row cut short is no element
+cut_from : (values b : List ℕ) (n i : ℕ) → length b < 12 * (i + n) + 12 → elements_of_rows values b (suc n) (12 * i) ≡ none
+unfolding elements_of_rows scan_row_size join_element
+cut_from values b zero i short =
+    ap (λ o. join_element o (some [])) (row_cut values b (12 * i) (omega arith))
+cut_from values b (suc n) i short =
+    ap (λ (m : ℕ). join_element (element_of_row values b (12 * i)) (elements_of_rows values b (suc n) m)) (omega arith)
+    ∙ ap (join_element (element_of_row values b (12 * i))) (cut_from values b n (i + 1) (omega arith))
+    ∙ join_none (element_of_row values b (12 * i))
+
+pub cut_read : (values b : List ℕ) → (length b % 12 ≡ 0 → ⊥) → pattern_of_rows values b ≡ none
+unfolding pattern_of_rows row_count scan_row_size
+cut_read values b cut =
+    ap (λ (n : ℕ). elements_of_rows values b n 0) (omega arith) ∙ cut_from values b (length b / 12) 0 (omega arith)
+
+-- bytes cut to rows
+module _ (values elements : List ℕ) (rows : List (List ℕ)) (chunks : rows ≡ first_chunks 12 (length elements / 12) elements) where
+  cut_whole : WholeRows rows
+  cut_whole = subst WholeRows (sym chunks) (chunks_whole (length elements / 12) elements (omega arith))
+
+  module _ (even : length elements % 12 ≡ 0) where
+    cut_flat : concat rows ≡ elements
+    cut_flat =
+        ap concat chunks ∙ chunks_concat (length elements / 12) elements ∙ take_all (length elements / 12 * 12) elements (omega arith)
+
+    cut_length : 12 * length rows ≡ length elements
+    cut_length = sym (concat_length rows cut_whole) ∙ ap length cut_flat
+
+    pub cut_pattern : (b : Bool) → list_all (is_element values) rows ≡ b
+        → pattern_of_rows values elements ≡ cond b (some (pattern_of values (concat rows) (length rows))) none
+    cut_pattern b all =
+        ap (pattern_of_rows values) (sym cut_flat)
+        ∙ rows_read values rows cut_whole
+        ∙ ap (λ t. cond t (some (pattern_of values (concat rows) (length rows))) none) all
+
+    pub cut_good : length elements ≤ 240 → ((i : ℕ) → get_or elements i 0 < 256) → list_all (is_element values) rows ≡ true → GoodPattern values rows
+    cut_good most bytes =
+        rows_good values rows cut_whole (omega (arith, cut_length)) (subst (λ l. (i : ℕ) → get_or l i 0 < 256) (sym cut_flat) bytes)
+
+-- the first rows of some bytes
+first_elements : (values b : List ℕ) (count n i : ℕ) → i + n ≤ count
+    → scan_elements values (take (12 * count) b) n i ≡ scan_elements values b n i
+unfolding scan_elements
+first_elements values b count zero i h = refl
+first_elements values b count (suc n) i h =
+    ap₂ {C = List Splits.Element} ◌∷◌ (ap (scan_element values) (take_row b count i (omega arith))) (first_elements values b count n (i + 1) (omega arith))
+
+module _ (values b : List ℕ) (count : ℕ) (good : GoodRows values b count) (part : List ℕ) (first : part ≡ take (12 * count) b)
+    (rows : List (List ℕ)) (chunks : rows ≡ first_chunks 12 (length part / 12) part) where
+  size : length part ≡ 12 * count
+  size = ap length first ∙ length-take-le (12 * count) b good.room
+
+  even : length part % 12 ≡ 0
+  even = omega (arith, size)
+
+  flat : concat rows ≡ take (12 * count) b
+  flat = cut_flat values part rows chunks even ∙ first
+
+  many : length rows ≡ count
+  many = omega (arith, cut_length values part rows chunks even, size)
+
+  pub first_good : GoodPattern values rows
+  first_good =
+      record {
+        whole = cut_whole values part rows chunks;
+        good = record {
+          few = omega (arith, many, good.few);
+          room = omega (arith, cut_length values part rows chunks even, ap length (cut_flat values part rows chunks even));
+          good = λ i h.
+              let inside : i < count = omega (arith, many) in
+              subst (RowGood values) (sym (ap (λ l. row_element l i) flat ∙ take_row b count i inside)) (good.good i inside);
+        };
       }
 
-  module _ {answer : List ℕ} {i : ℕ} (d : Reading values elements count answer i) where
-    abbrev at : ℕ
-    at = 12 * i
-
-    pub read_inside : i < count → at ≤ length elements
-    unfolding row_count scan_row_size
-    read_inside h = omega arith
-
-    -- the pattern by the next row's element
-    next : i < count
-        → pattern_of_rows values elements
-        ≡ prefixed (scan_elements values elements i 0)
-        (join_element (element_of_row values elements at) (elements_of_rows values elements (count - (i + 1)) (at + 12)))
-    unfolding elements_of_rows scan_row_size
-    next h =
-        let e : count - i ≡ suc (count - (i + 1)) = omega arith in
-        d.same ∙ ap (λ (n : ℕ). prefixed (scan_elements values elements i 0) (elements_of_rows values elements n at)) e
-
-    pub read_bad : {refusal : Refusal} → i < count → element_of_row values elements at ≡ none → refusal ≡ NoElement
-        → RowsRefused values elements refusal
-    unfolding prefixed join_element
-    read_bad h bad why =
-        record {
-          bad =
-              next h
-              ∙ ap
-              (λ (o : Option Splits.Element).
-              prefixed (scan_elements values elements i 0) (join_element o (elements_of_rows values elements (count - (i + 1)) (at + 12))))
-              bad;
-          why = why;
-        }
-
-    -- the row at this place is row i
-    here : scan_row_at elements at ≡ row_element elements i
-    unfolding row_element
-    here = refl
-
-    -- it is one of the pattern's
-    pub read_good : {e : Element} → RowIs values elements at e → RowGood values (row_element elements i)
-    read_good r = subst (RowGood values) (r.read ∙ here) r.good
-
-    pub read_more : {v : ℕ} {e : Element} → i < count → count ≤ 20 → RowIs values elements at e → v ≡ size_of e
-        → Reading values elements count (set answer (4 + i) v) (i + 1)
-    read_more {v} h most r size =
-        let further : at + 12 ≡ 12 * (i + 1) = omega arith in
-        let o : Option (List Splits.Element) = elements_of_rows values elements (count - (i + 1)) (at + 12) in
-        let this = scan_element values (row_element elements i) in
-        let one : i + 1 ≡ suc i = omega arith in
-        let all : scan_elements values elements (i + 1) 0 ≡ scan_elements values elements i 0 ++ (this ∷ []) =
-        ap (λ (n : ℕ). scan_elements values elements n 0) one
-        ∙ elements-more values elements i 0
-        ∙ ap (λ (n : ℕ). scan_elements values elements i 0 ++ (scan_element values (row_element elements n) ∷ [])) (omega arith) in
-        record {
-          high = omega arith;
-          room = omega (arith, r.room);
-          good = below_more (λ j. RowGood values (row_element elements j)) i d.good (read_good r);
-          same =
-              next h
-              ∙ ap (λ (e : Option Splits.Element). prefixed (scan_elements values elements i 0) (join_element e o))
-              (r.same ∙ ap (λ (e : Element). some (scan_element values e)) (r.read ∙ here))
-              ∙ prefixed_more (scan_elements values elements i 0) this o
-              ∙ ap (λ (p : List Splits.Element). prefixed p o) (sym all)
-              ∙ ap (λ (n : ℕ). prefixed (scan_elements values elements (i + 1) 0) (elements_of_rows values elements (count - (i + 1)) n)) further;
-          left = ap (λ (l : List ℕ). set l (4 + i) v) d.left ∙ row-filled elements i v (omega arith) (size ∙ ap size_of (r.read ∙ here));
-        }
-
-    pub read_ends : count ≤ i → count ≤ 20 → RowsAre values elements count answer
-    unfolding elements_of_rows prefixed pattern_of
-    read_ends h most =
-        let e : i ≡ count = omega (arith, d.high) in
-        let z : count - i ≡ 0 = omega arith in
-        record {
-          same =
-              d.same
-              ∙ ap (λ (n : ℕ). prefixed (scan_elements values elements i 0) (elements_of_rows values elements n at)) z
-              ∙ ap some (append-nil (scan_elements values elements i 0))
-              ∙ ap (λ (n : ℕ). some (scan_elements values elements n 0)) e;
-          good = record { few = most; room = omega (arith, d.room); good = λ j l. d.good j (omega (arith, d.high)) };
-          left = d.left ∙ ap (λ (n : ℕ). row_answer n (0 ∷ sizes_at elements n 0)) e;
-        }
+  pub first_pattern : pattern_of values (concat rows) (length rows) ≡ pattern_of values b count
+  unfolding pattern_of
+  first_pattern =
+      ap (λ l. scan_elements values l (length rows) 0) flat
+      ∙ ap (λ (n : ℕ). scan_elements values (take (12 * count) b) n 0) many
+      ∙ first_elements values b count count 0 (omega arith)
 
 -- how many rows there are, by their bytes
 pub count_most : (elements : List ℕ) → length elements ≤ 240 → row_count elements ≤ 20

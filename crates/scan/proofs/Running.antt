@@ -14,9 +14,9 @@ use Rattle.std.specs.Prelude.{◌⊎◌}
 use Rattle.std.proofs.Common.{inl, inr}
 use Rattle.scan.specs.declared.Failure.{Failure}
 use Rattle.scan.specs.declared.Failure.TheVariants.{Other, Few}
-use Rattle.scan.specs.Steps.{test_of, tried_as, passed_behind, resumed_trial, group_at, WholeGroup, FailedGroup, outcome, RunFound, RunFailed, SkipSays}
+use Rattle.scan.specs.Steps.{test_of, tried_as, passed_behind, resumed_trial, group_at, WholeGroup, FailedGroup, SkipSays}
 use Rattle.scan.specs.declared.Element.{Element}
-use Rattle.scan.proofs.Answers.{row-set, row_settled}
+use Rattle.scan.proofs.Answers.{row-set, row_settled, outcome, RunFound}
 use Rattle.scan.proofs.Rows.{elements_cons, elements_none, sizes-length, match-other}
 use Rattle.scan.proofs.Slides.{resumed_none, slide_slid, slides_on, slides_off, slides_few, slides_over, slides_found, slides_whole}
 
@@ -119,25 +119,16 @@ module _ {reference values rows : List ℕ} {count : ℕ} where
         ∙ ap (λ (m : ℕ). resumed_trial r.pre m (trials + n) (slide row (drop (place + 1) reference))) gap)
 
     run_stops : {n : ℕ} → FailedGroup reference values rows count g place n (other n) → place ≡ length reference
-        → RunFailed reference values rows count (trials + n)
+        → outcome reference values rows count ≡ few (trials + n)
     run_stops {n} f h =
-        record {
-          same =
-              r.same
-              ∙ slides_off r.pre row (drop place reference) (place - from) trials n f.same (omega (arith, length-drop place reference));
-          small = omega (arith, r.bound, f.few, r.more, r.inside, r.short, r.most);
-        }
+        r.same ∙ slides_off r.pre row (drop place reference) (place - from) trials n f.same (omega (arith, length-drop place reference))
 
-    run_ends : {n : ℕ} → FailedGroup reference values rows count g place n (few n) → RunFailed reference values rows count (trials + n)
-    run_ends {n} f =
-        record {
-          same = r.same ∙ slides_few r.pre row (drop place reference) (place - from) trials n f.same;
-          small = omega (arith, r.bound, f.few, r.more, r.inside, r.short, r.most);
-        }
+    run_ends : {n : ℕ} → FailedGroup reference values rows count g place n (few n) → outcome reference values rows count ≡ few (trials + n)
+    run_ends {n} f = r.same ∙ slides_few r.pre row (drop place reference) (place - from) trials n f.same
 
     -- a group that failed ends the run where too few bytes are left or no place, and moves on elsewhere
     pub run_over : (failure : Failure) {n : ℕ} → FailedGroup reference values rows count g place n (tried_as failure n)
-        → (failure ≡ Few) ⊎ (place ≡ length reference) → RunFailed reference values rows count (trials + n)
+        → (failure ≡ Few) ⊎ (place ≡ length reference) → outcome reference values rows count ≡ few (trials + n)
     unfolding tried_as
     run_over Few f why = run_ends f
     run_over Other f (inl e) = absurd (e_differs e)
@@ -181,7 +172,6 @@ module _ {reference values rows : List ℕ} {count : ℕ} where
             size =
                 omega
                 (arith, length-append r.pre (gap ∷ sizes_at rows (count - g) g), sizes-length rows (count - g) g, r.size, r.more);
-            small = omega (arith, r.bound, r.more, r.inside, r.short, r.most);
           }
 
       -- the lengths settled with this group
@@ -225,7 +215,6 @@ module _ {reference values rows : List ℕ} {count : ℕ} where
                 (settled-left (omega arith) ∙ ap (λ (n : ℕ). row_answer count (settled ++ (0 ∷ sizes_at rows n (j + 1)))) none)
                 ∙ row-set count settled [] 0 tail (3 + (j + 1)) (omega (arith, settled_size));
             size = omega (arith, length-append settled (tail ∷ []), settled_size);
-            small = omega (arith, r.bound, r.more, r.inside, r.short, r.most);
           }
 
       pub run-next : j + 1 < count

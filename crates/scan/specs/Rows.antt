@@ -1,13 +1,12 @@
 -- A pattern as rows of 12 bytes, laid out as the scan call's: which elements the rows are, and when the scan can go through them.
 -- Assumes nothing.
-use Rattle.std.specs.Prelude.{Option, Some, None, Result, Ok, Err, cond, List, [], ◌∷◌, ◌++◌, ◌≡◌, ℕ, zero, suc, ◌+◌, ◌*◌, ◌-◌, ◌≤◌, ◌<◌, ◌^◌, eqb, length, take, drop, get_or, replicate}
-use Rattle.std.proofs.Math.Option.{none, some}
+use Rattle.std.specs.Prelude.{Bool, true, false, cond, List, [], ◌∷◌, ◌++◌, ◌≡◌, ℕ, zero, suc, ◌+◌, ◌*◌, ◌-◌, ◌≤◌, ◌<◌, ◌^◌, eqb, length, take, drop, get_or, replicate}
+use Rattle.std.specs.List.{concat, list_all}
+use Rattle.std.proofs.Math.Option.{Option, none, some}
 use Rattle.std.proofs.Props.{props}
 use Rattle.scanning.specs.Splits as Splits
 use Rattle.scanning.specs.Splits.{string, fixed, free}
-use Rattle.scanning.specs.Call.{number4, element_of_row, pattern_of_rows}
-use Rattle.scanning.specs.declared.Refusal.{Refusal}
-use Rattle.scanning.specs.declared.Refusal.TheVariants.{NoElement}
+use Rattle.scanning.specs.Call.{number4, element_of_row}
 use Rattle.scan.specs.declared.Element.{Element}
 use Rattle.scan.specs.declared.Element.TheVariants.{Part, Fixed, Free}
 
@@ -85,36 +84,34 @@ row_good_prop values (Part from to) = hlevel props
 row_good_prop values (Fixed n) = hlevel props
 row_good_prop values Free = hlevel props
 
-pub good_rows_prop : (values rows : List ℕ) (count : ℕ) → IsProp (GoodRows values rows count)
+good_rows_prop : (values rows : List ℕ) (count : ℕ) → IsProp (GoodRows values rows count)
 good_rows_prop values rows count = hlevel (props, row_good_prop)
 
--- the element that a row of bytes is
-pub record RowIs (values elements : List ℕ) (at : ℕ) (e : Element) : Type 0 where
-  pub read : e ≡ scan_row_at elements at
-  pub same : element_of_row values elements at ≡ some (scan_element values e)
-  pub good : RowGood values e
-  pub room : at + 12 ≤ length elements
+-- rows of 12 bytes each
+abbrev pub WholeRows : List (List ℕ) → Type 0
+WholeRows rows = (i : ℕ) → i < length rows → length (get_or rows i []) ≡ 12
 
--- whether a row of bytes is an element, and which
-unfoldable pub RowSays : (values elements : List ℕ) → ℕ → Option Element → Type 0
-RowSays values elements at None = element_of_row values elements at ≡ none
-RowSays values elements at (Some e) = RowIs values elements at e
+-- a pattern's rows, good as the bytes that they are
+pub record GoodPattern (values : List ℕ) (rows : List (List ℕ)) : Type 0 where
+  pub whole : WholeRows rows
+  pub good : GoodRows values (concat rows) (length rows)
+
+pub good_pattern_prop : (values : List ℕ) (rows : List (List ℕ)) → IsProp (GoodPattern values rows)
+good_pattern_prop values rows = hlevel (props, good_rows_prop)
+
+-- whether a row is an element
+unfoldable pub held : Option Splits.Element → Bool
+held none = false
+held (some e) = true
+
+unfoldable pub is_element : (values row : List ℕ) → Bool
+is_element values row = held (element_of_row values row 0)
 
 -- the lengths of an answer, the start first, filled with zeros behind three numbers that are still 0
 unfoldable pub row_answer : ℕ → List ℕ → List ℕ
 row_answer count row = 0 ∷ (0 ∷ (0 ∷ (row ++ replicate (20 - count) 0)))
 
--- all rows are elements, and which; their lengths stand in the answer
-pub record RowsAre (values elements : List ℕ) (count : ℕ) (answer : List ℕ) : Type 0 where
-  pub same : pattern_of_rows values elements ≡ some (pattern_of values elements count)
-  pub good : GoodRows values elements count
-  pub left : answer ≡ row_answer count (0 ∷ sizes_at elements count 0)
-
--- one is no element
-pub record RowsRefused (values elements : List ℕ) (refusal : Refusal) : Type 0 where
-  pub bad : pattern_of_rows values elements ≡ none
-  pub why : refusal ≡ NoElement
-
-unfoldable pub RowsSay : (values elements : List ℕ) → ℕ → List ℕ → Result Unit Refusal → Type 0
-RowsSay values elements count answer (Ok _) = RowsAre values elements count answer
-RowsSay values elements count answer (Err refusal) = RowsRefused values elements refusal
+-- whether all rows are elements; where they are, their lengths stand in the answer
+pub record RowsSay (values : List ℕ) (rows : List (List ℕ)) (answer : List ℕ) (read : Bool) : Type 0 where
+  pub all : read ≡ list_all (is_element values) rows
+  pub left : read ≡ true → answer ≡ row_answer (length rows) (0 ∷ sizes_at (concat rows) (length rows) 0)

@@ -1,13 +1,13 @@
--- What the parts of the scan say of the definition of the scan: one test, one group, the whole run. Assumes nothing.
-use Rattle.std.specs.Prelude.{Bool, true, false, Option, Some, None, Result, Ok, Err, List, [], ◌∷◌, ◌++◌, ◌≡◌, ℕ, suc, ◌+◌, ◌-◌, ◌≤◌, ◌<◌, ◌^◌, leb, length, drop}
+-- What the parts of the scan say of the definition of the scan: one test, one group, the call. Assumes nothing.
+use Rattle.std.specs.Prelude.{Bool, true, false, Option, Some, None, Result, Ok, Err, List, [], ◌∷◌, ◌++◌, ◌≡◌, ℕ, ◌+◌, ◌-◌, ◌≤◌, ◌<◌, leb, length, drop}
 use Rattle.base.specs.Lists.{begins}
 use Rattle.scanning.specs.Splits as Splits
 use Rattle.scanning.specs.Splits.{string, fixed, free}
-use Rattle.scanning.specs.Trials.{Tried, found, other, few, match, slide}
+use Rattle.scanning.specs.Trials.{Tried, found, other, few, match}
 use Rattle.scanning.specs.Call.{Called, scan_turned_down}
 use Rattle.scanning.specs.Kinds.{refusal_number}
 use Rattle.scanning.specs.declared.Refusal.{Refusal}
-use Rattle.scan.specs.Rows.{row_element, scan_elements, pattern_of, sizes_at, row_answer}
+use Rattle.scan.specs.Rows.{row_element, scan_elements, sizes_at}
 use Rattle.scan.specs.declared.Element.TheVariants.{Free}
 use Rattle.scan.specs.declared.Failure.{Failure}
 use Rattle.scan.specs.declared.Failure.TheVariants.{Other, Few}
@@ -79,27 +79,6 @@ GroupSays reference values rows count g place (Err failed) =
 pub record GroupReady (reference values rows : List ℕ) (count g place known : ℕ) : Type 0 where
   pub short : length reference ≤ 1024
   pub reached : Reached reference values rows count g place (g + known) (place + known)
-
--- the scan's outcome
-abbrev pub outcome : (reference values rows : List ℕ) → ℕ → Tried
-outcome reference values rows count = slide (match (pattern_of values rows count)) reference
-
--- the run found a row of lengths, after n trials
-pub record RunFound (reference values rows : List ℕ) (count : ℕ) (answer : List ℕ) (n : ℕ) : Type 0 where
-  pub row : List ℕ
-  pub same : outcome reference values rows count ≡ found row n
-  pub left : answer ≡ row_answer count row
-  pub size : length row ≡ suc count
-  pub small : n < 2 ^ 32
-
--- the run failed, after n trials
-pub record RunFailed (reference values rows : List ℕ) (count n : ℕ) : Type 0 where
-  pub same : outcome reference values rows count ≡ few n
-  pub small : n < 2 ^ 32
-
-unfoldable pub RunSays : (reference values rows : List ℕ) → ℕ → List ℕ → Result ℕ ℕ → Type 0
-RunSays reference values rows count answer (Ok n) = RunFound reference values rows count answer n
-RunSays reference values rows count answer (Err n) = RunFailed reference values rows count n
 
 -- n places at each of which the element has enough bytes and fails
 pub record SkipSays (rest : List ℕ) (e : Splits.Element) (n : ℕ) : Type 0 where

@@ -2,28 +2,31 @@
 // of a row where it is matched. The contracts cite the definitions of crate scanning. Assumes nothing.
 #![tactic(auto)]
 
-ghost use Rattle.std.specs.Prelude.{cond, ◌≡◌, ◌∷◌, ℕ, ◌+◌, ◌*◌, ◌≤◌, ◌<◌, ◌^◌, length, drop, get_or, set};
+ghost use Rattle.std.specs.Prelude.{true, cond, ◌≡◌, ◌∷◌, ◌+◌, ◌≤◌, ◌<◌, ◌^◌, length, get_or, set};
+ghost use Rattle.std.specs.List.{concat};
 ghost use Rattle.std.proofs.Math.Option.{none};
 ghost use Rattle.scanning.specs.Splits.{string};
 ghost use Rattle.scanning.specs.Trials.{scan};
-ghost use Rattle.scanning.specs.Call.{number4 as Call·number4, split_numbers, answer_numbers, row_count, scan_call, ScanPromise};
-ghost use Rattle.scan.specs.Rows.{row_element, scan_element, pattern_of, size_of, sizes_at, RowSized, RowGood, GoodRows, good_rows_prop, RowSays, row_answer, RowsSay};
-ghost use Rattle.scan.specs.Steps.{test_of, SkipSays, StandsSays, CallSays, GroupSays, GroupReady, RunSays};
+ghost use Rattle.scanning.specs.Call.{number4 as Call·number4, split_numbers, answer_numbers, scan_call, ScanPromise};
+ghost use Rattle.scan.specs.Rows.{scan_row_at, scan_element, pattern_of, size_of, sizes_at, is_element, RowSized, RowGood, GoodRows, GoodPattern, good_pattern_prop, RowsSay, row_answer};
+ghost use Rattle.scan.specs.Steps.{test_of, SkipSays, StandsSays, CallSays, GroupSays, GroupReady};
 
 use base::LONGEST;
 use scanning::{
     ANSWER_SIZE, FOUND_AT, LENGTHS_AT, NOTES_AT, ROW_SIZE, Refusal, RowKind, START_AT, TRIALS_AT,
 };
 
-// the most bytes of a pattern, and the first fixed length that is negative
-const MOST: usize = ROW_SIZE * base::ROW;
+// the most bytes of a pattern's rows
+pub const ROWS_SIZE: usize = ROW_SIZE * base::ROW;
 
-const NEGATIVE: usize = 2147483648;
+// the first number of 4 bytes that is negative in C
+const NEGATIVE: usize = 1 << 31;
 
 // where the gap before a first group stands while the scan runs: the start, before the lengths
 const GAP_AT: usize = LENGTHS_AT - 1;
 
 // An element of a pattern: a string, as the ends of its part of the values; a fixed filler with its length; a free filler.
+// kept: a part's ends as document 01 (F6) names them; a Range is no Copy, and an element is handed on by value
 #[derive(Clone, Copy)]
 pub enum Element {
     Part(usize, usize),
@@ -31,50 +34,43 @@ pub enum Element {
     Free,
 }
 
-// A pattern of so many rows, all of them good; its strings are parts of the values.
-// kept: the count stands beside the rows: of a slice cut to them it would be their bytes by 12, worked out wherever a group's end is asked
+// A pattern of good rows; its strings are parts of the values.
 #[derive(Clone, Copy)]
 struct Pattern<'a> {
     values: &'a [u8],
-    rows: &'a [u8],
-    count: usize,
-    ghost ready: { GoodRows values.now rows.now count } by { good_rows_prop values.now rows.now count },
+    rows: &'a [[u8; ROW_SIZE]],
+    ghost ready: { GoodPattern values.now rows.now } by { good_pattern_prop values.now rows.now },
 }
 
 // Why an element fails at a place: other bytes stand there, so that its group moves on; or too few bytes are left, so that the scan ends.
 #[derive(Clone, Copy, PartialEq, Eq)]
-pub enum Failure {
+enum Failure {
     Other,
     Few,
 }
 
 // A group that failed at a place: why, and after how many trials.
 #[derive(Clone, Copy)]
-pub struct Failed {
+struct Failed {
     failure: Failure,
     trials: usize,
 }
 
-// four bytes as a number, low byte first
-fn number4(b: &[u8], at: usize) -> usize
-    requires { at + 3 < length b.now }
-    ensures { (result ≡ Call·number4 b.now at) × (result < 2 ^ 32) }
+// four bytes of a row as a number, low byte first
+fn number4(row: &[u8; ROW_SIZE], at: usize) -> usize
+    requires { at + 3 < 12 }
+    ensures { (result ≡ Call·number4 row.now at) × (result < 2 ^ 32) }
 {
-    u32::from_le_bytes([b[at], b[at + 1], b[at + 2], b[at + 3]]) as usize
+    u32::from_le_bytes([row[at], row[at + 1], row[at + 2], row[at + 3]]) as usize
 }
 
-// the element of row i
-fn row_element(rows: &[u8], i: usize) -> Element
-    requires { (12 * i + 11 < length rows.now) × (i < 20) }
-    ensures { result ≡ row_element rows.now i }
+// the element of a row, one of no known kind read as a free filler
+fn row_element(row: &[u8; ROW_SIZE]) -> Element
+    ensures { result ≡ scan_row_at row.now 0 }
 {
-    let at = ROW_SIZE * i;
-    let Some(kind) = RowKind::of(rows[at]) else {
-        return Element::Free;
-    };
-    match kind {
-        RowKind::String => Element::Part(number4(rows, at + 4), number4(rows, at + 8)),
-        RowKind::Fixed => Element::Fixed(number4(rows, at + 4)),
+    match RowKind::of(row[0]).unwrap_or(RowKind::Free) {
+        RowKind::String => Element::Part(number4(row, 4), number4(row, 8)),
+        RowKind::Fixed => Element::Fixed(number4(row, 4)),
         RowKind::Free => Element::Free,
     }
 }
@@ -93,22 +89,15 @@ fn test_string(rest: &[u8], word: &[u8]) -> Result<Option<usize>, Failure>
     }
 }
 
-// The test of an element at a place: the length of its piece, or none for a free filler, which is not tested.
-// kept: reference, values, element and place come apart, here and below: the last two are others at each test, so a struct would be made anew
-fn test_element(
-    reference: &[u8],
-    values: &[u8],
-    e: Element,
-    at: usize,
-) -> Result<Option<usize>, Failure>
-    requires at_in_bounds { at ≤ length reference.now }
-    requires row_good { RowGood values.now e }
-    ensures { result ≡ test_of (scan_element values.now e) (drop at reference.now) }
+// The test of an element at the start of rest: the length of its piece, or none for a free filler, which is not tested.
+fn test_element(values: &[u8], e: Element, rest: &[u8]) -> Result<Option<usize>, Failure>
+    requires { RowGood values.now e }
+    ensures { result ≡ test_of (scan_element values.now e) rest.now }
 {
     match e {
-        Element::Part(from, to) => test_string(&reference[at..], &values[from..to]),
+        Element::Part(from, to) => test_string(rest, &values[from..to]),
         Element::Fixed(n) => {
-            if reference.len() - at < n {
+            if rest.len() < n {
                 Err(Failure::Few)
             } else {
                 Ok(Some(n))
@@ -129,13 +118,17 @@ fn test_group(
     place: usize,
     known: bool,
 ) -> Result<(usize, usize), Failed>
-    requires group_ready { GroupReady reference.now pattern.values.now pattern.rows.now pattern.count g place (cond known 1 0) }
-    ensures { let p = pattern.entry in GroupSays reference.now p.values.now p.rows.now p.count g place result }
+    requires group_ready { GroupReady reference.now pattern.values.now (concat pattern.rows.now) (length pattern.rows.now) g place (cond known 1 0) }
+    ensures { let p = pattern.entry in GroupSays reference.now p.values.now (concat p.rows.now) (length p.rows.now) g place result }
 {
     let passed = usize::from(known);
     let mut at = place + passed;
-    for i in g + passed..pattern.count {
-        match test_element(reference, pattern.values, row_element(pattern.rows, i), at) {
+    for i in g + passed..pattern.rows.len() {
+        match test_element(
+            pattern.values,
+            row_element(&pattern.rows[i]),
+            &reference[at..],
+        ) {
             Ok(Some(n)) => at += n,
             Ok(None) => return Ok((i, at)),
             Err(failure) => {
@@ -146,76 +139,74 @@ fn test_group(
             }
         }
     }
-    Ok((pattern.count, at))
+    Ok((pattern.rows.len(), at))
 }
 
-// how many places from one on a group can pass over because its first element, a string, fails there: each is one trial
-fn pass_places(reference: &[u8], values: &[u8], e: Element, at: usize) -> usize
-    requires at_in_bounds { at ≤ length reference.now }
-    requires row_good { RowGood values.now e }
-    ensures { SkipSays (drop at reference.now) (scan_element values.now e) result }
+// how many places of rest from the first on a group can pass over because its first element, a string, fails there: each is one trial
+fn pass_places(values: &[u8], e: Element, rest: &[u8]) -> usize
+    requires { RowGood values.now e }
+    ensures { SkipSays rest.now (scan_element values.now e) result }
 {
     match e {
-        Element::Part(from, to) => search::passed(&reference[at..], &values[from..to]),
+        Element::Part(from, to) => search::passed(rest, &values[from..to]),
         Element::Fixed(_) | Element::Free => 0,
     }
 }
 
-// whether the element is a string of one byte that stands at the place: the quick way through the commonest groups
-fn stands(reference: &[u8], values: &[u8], e: Element, at: usize) -> bool
-    requires at_in_bounds { at ≤ length reference.now }
-    requires row_good { RowGood values.now e }
-    ensures { StandsSays (drop at reference.now) (scan_element values.now e) result }
+// whether the element is a string of one byte that stands at the start of rest: the quick way through the commonest groups
+fn stands(values: &[u8], e: Element, rest: &[u8]) -> bool
+    requires { RowGood values.now e }
+    ensures { StandsSays rest.now (scan_element values.now e) result }
 {
     match e {
         Element::Part(from, to) => {
-            if to - from != 1 || at == reference.len() {
+            if to - from != 1 || rest.is_empty() {
                 return false;
             }
-            reference[at] == values[from]
+            rest[0] == values[from]
         }
         Element::Fixed(_) | Element::Free => false,
     }
 }
 
 // The scan, group by group. The answer holds the lengths that don't depend on the place; each turn passes over places, tests a group and, where all
-// of it passed, writes the gap before it, the start at first and then the length of a free filler. A last free filler reaches the end. What it
-// answers are the trials, of a split found or of none.
-// kept: Ok and Err are found or not, each with the trials made: no refusal, and no struct of a flag and a number
+// of it passed, writes the gap before it, the start at first and then the length of a free filler. A last free filler reaches the end.
 // kept: a loop: a turn goes on by as many places, or to the group, that its test says; no range or chain has such turns
-fn run(reference: &[u8], pattern: Pattern, answer: &mut [u32; ANSWER_SIZE]) -> Result<usize, usize>
-    requires reference_len_bound { (length reference.now ≤ 1024) × (0 < pattern.count) }
-    requires answer_value { answer.old ≡ row_answer pattern.count (0 ∷ sizes_at pattern.rows.now pattern.count 0) }
-    ensures { let p = pattern.entry in RunSays reference.now p.values.now p.rows.now p.count answer.new result }
+fn run(reference: &[u8], pattern: Pattern, answer: &mut [u32; ANSWER_SIZE])
+    requires bounds { (length reference.now ≤ 1024) × (0 < length pattern.rows.now) }
+    requires answer_value { answer.old ≡
+        row_answer (length pattern.rows.now) (0 ∷ sizes_at (concat pattern.rows.now) (length pattern.rows.now) 0) }
+    ensures { let p = pattern.entry in
+        answer.new ≡ answer_numbers 0 (scan (pattern_of p.values.now (concat p.rows.now) (length p.rows.now)) reference.now) }
 {
     let mut g: usize = 0;
     let mut from: usize = 0;
     let mut place: usize = 0;
     let mut trials: usize = 0;
     loop {
-        let e = row_element(pattern.rows, g);
-        let k = pass_places(reference, pattern.values, e, place);
+        let e = row_element(&pattern.rows[g]);
+        let k = pass_places(pattern.values, e, &reference[place..]);
         place += k;
         trials += k;
-        let known = stands(reference, pattern.values, e, place);
+        let known = stands(pattern.values, e, &reference[place..]);
         match test_group(reference, pattern, g, place, known) {
             Err(failed) => {
                 trials += failed.trials;
                 if failed.failure == Failure::Few || place == reference.len() {
-                    return Err(trials);
+                    return fail(trials, answer);
                 }
                 place += 1;
             }
             Ok((j, end)) => {
                 answer[GAP_AT + g] = (place - from) as u32;
                 trials += j - g;
-                if j == pattern.count {
-                    return Ok(trials);
+                if j == pattern.rows.len() {
+                    return finish(trials, answer);
                 }
                 g = j + 1;
-                if g == pattern.count {
+                if g == pattern.rows.len() {
                     answer[GAP_AT + g] = (reference.len() - end) as u32;
-                    return Ok(trials);
+                    return finish(trials, answer);
                 }
                 from = end;
                 place = end;
@@ -237,15 +228,13 @@ fn length_of(e: Element) -> usize
 }
 
 // the answer with the lengths of a pattern's pieces, behind the start's place
-// kept: by the row's index, here and in read_rows: row_element takes it, and a length has it in the answer
-fn fill(rows: &[u8], count: usize, answer: &mut [u32; ANSWER_SIZE])
-    requires count_bound { (count ≤ 20) × (12 * count ≤ length rows.now) }
-    requires by_index { (i : ℕ) → i < count → RowSized (row_element rows.now i) }
-    ensures { answer.new ≡ row_answer count (0 ∷ sizes_at rows.now count 0) }
+fn fill(pattern: Pattern, answer: &mut [u32; ANSWER_SIZE])
+    ensures { let p = pattern.entry in
+        answer.new ≡ row_answer (length p.rows.now) (0 ∷ sizes_at (concat p.rows.now) (length p.rows.now) 0) }
 {
     *answer = [0u32; ANSWER_SIZE];
-    for i in 0..count {
-        answer[LENGTHS_AT + i] = length_of(row_element(rows, i)) as u32;
+    for (i, row) in pattern.rows.iter().enumerate() {
+        answer[LENGTHS_AT + i] = length_of(row_element(row)) as u32;
     }
 }
 
@@ -270,20 +259,19 @@ fn finish(trials: usize, answer: &mut [u32; ANSWER_SIZE])
     answer[NOTES_AT] = 0;
 }
 
-// the scan by rows whose lengths stand in the answer
+// the scan by good rows whose lengths stand in the answer
 // kept: reference and pattern come apart, as document 01's scan has them; the clause on the reference's length bounds the trials
 fn scan_filled(reference: &[u8], pattern: Pattern, answer: &mut [u32; ANSWER_SIZE])
     requires reference_len_bound { length reference.now ≤ 1024 }
-    requires answer_value { answer.old ≡ row_answer pattern.count (0 ∷ sizes_at pattern.rows.now pattern.count 0) }
-    ensures { let p = pattern.entry in answer.new ≡ answer_numbers 0 (scan (pattern_of p.values.now p.rows.now p.count) reference.now) }
+    requires answer_value { answer.old ≡
+        row_answer (length pattern.rows.now) (0 ∷ sizes_at (concat pattern.rows.now) (length pattern.rows.now) 0) }
+    ensures { let p = pattern.entry in
+        answer.new ≡ answer_numbers 0 (scan (pattern_of p.values.now (concat p.rows.now) (length p.rows.now)) reference.now) }
 {
-    if pattern.count == 0 {
+    if pattern.rows.is_empty() {
         finish(0, answer);
-        return;
-    }
-    match run(reference, pattern, answer) {
-        Ok(trials) => finish(trials, answer),
-        Err(trials) => fail(trials, answer),
+    } else {
+        run(reference, pattern, answer);
     }
 }
 
@@ -299,60 +287,40 @@ pub fn scan_into(
     requires reference_len_bound { length reference.now ≤ 1024 }
     ensures { answer.new ≡ answer_numbers 0 (scan (pattern_of values.now rows.now count) reference.now) }
 {
-    fill(rows, count, answer);
-    let pattern = Pattern {
-        values,
-        rows,
-        count,
-    };
+    let (rows, _) = rows[..ROW_SIZE * count].as_chunks();
+    let pattern = Pattern { values, rows };
+    fill(pattern, answer);
     scan_filled(reference, pattern, answer);
 }
 
-// the element whose row of bytes starts at a place, if it is one
-fn read_element(values: &[u8], elements: &[u8], at: usize) -> Option<Element>
-    requires { (at ≤ length elements.now) × (length elements.now ≤ 240) }
-    ensures { RowSays values.now elements.now at result }
+// whether a row is an element
+// kept: a truth, and no element: row_element makes it, here and in the rows that are known to have one
+fn is_element(values: &[u8], row: &[u8; ROW_SIZE]) -> bool
+    ensures { (result ≡ is_element values.now row.now) × (result ≡ true → RowGood values.now (scan_row_at row.now 0)) }
 {
-    if elements.len() - at < ROW_SIZE {
-        return None;
-    }
-    let first = number4(elements, at + 4);
-    match RowKind::of(elements[at])? {
-        RowKind::String => {
-            let to = number4(elements, at + 8);
-            if first <= to && to <= values.len() {
-                Some(Element::Part(first, to))
-            } else {
-                None
-            }
+    RowKind::of(row[0]).is_some()
+        && match row_element(row) {
+            Element::Part(from, to) => from <= to && to <= values.len(),
+            Element::Fixed(n) => n < NEGATIVE,
+            Element::Free => true,
         }
-        RowKind::Fixed => {
-            if first < NEGATIVE {
-                Some(Element::Fixed(first))
-            } else {
-                None
-            }
-        }
-        RowKind::Free => Some(Element::Free),
-    }
 }
 
-// Reads all rows as elements: their lengths stand in the answer then.
-fn read_rows(
-    values: &[u8],
-    elements: &[u8],
-    count: usize,
-    answer: &mut [u32; ANSWER_SIZE],
-) -> Result<(), Refusal>
-    requires { (length elements.now ≤ 240) × (count ≡ row_count elements.now) }
-    ensures { RowsSay values.now elements.now count answer.new result }
+// Whether all rows are elements: their lengths stand in the answer then.
+// kept: its loop is fill's with a test, which scan_into's rows needn't pass; tested first and then filled, rows take 14 to 17 percent more
+// instructions in a scan of 6 or 24 bytes
+fn read_rows(values: &[u8], rows: &[[u8; ROW_SIZE]], answer: &mut [u32; ANSWER_SIZE]) -> bool
+    requires { length rows.now ≤ 20 }
+    ensures { RowsSay values.now rows.now answer.new result }
 {
     *answer = [0u32; ANSWER_SIZE];
-    for i in 0..count {
-        let e = read_element(values, elements, ROW_SIZE * i).ok_or(Refusal::NoElement)?;
-        answer[LENGTHS_AT + i] = length_of(e) as u32;
+    for (i, row) in rows.iter().enumerate() {
+        if !is_element(values, row) {
+            return false;
+        }
+        answer[LENGTHS_AT + i] = length_of(row_element(row)) as u32;
     }
-    Ok(())
+    true
 }
 
 // the scan on what a call was lent, unless it is turned down
@@ -367,17 +335,14 @@ fn scan_rows(
     if LONGEST < reference.len() {
         return Err(Refusal::LongReference);
     }
-    if MOST < elements.len() {
+    if ROWS_SIZE < elements.len() {
         return Err(Refusal::ManyElements);
     }
-    let count = elements.len().div_ceil(ROW_SIZE);
-    read_rows(values, elements, count, answer)?;
-    let pattern = Pattern {
-        values,
-        rows: elements,
-        count,
-    };
-    scan_filled(reference, pattern, answer);
+    let (rows, cut) = elements.as_chunks();
+    if !cut.is_empty() || !read_rows(values, rows, answer) {
+        return Err(Refusal::NoElement);
+    }
+    scan_filled(reference, Pattern { values, rows }, answer);
     Ok(())
 }
 

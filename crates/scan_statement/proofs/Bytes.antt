@@ -10,7 +10,7 @@ use Rattle.std.proofs.lemmas.List.{get_or-drop}
 use Rattle.encoding.specs.Splices.{splice, drop-splice, get_or-splice-before, get_or-splice-behind, length-splice}
 use lib.Seq.{get_or-set_same, get_or-set_other}
 use Rattle.scanning.specs.Call.{number4}
-use Rattle.scan.specs.Rows.{scan_row_at, row_element}
+use Rattle.scan.specs.Rows.{scan_row, scan_row_at, row_element}
 use Rattle.scan_statement.specs.Putting.{Put4, PutRow}
 
 -- four bytes written among others, and the number that they make up
@@ -39,7 +39,7 @@ number_kept old new at h =
 
 -- a row of a kind, then a number, then another
 pub put_rows : (old : List ℕ) (i kind a b : ℕ) (mid new : List ℕ) → 12 * i + 11 < length old
-    → Put4 (set old (12 * i) kind) mid (12 * i + 4) a → Put4 mid new (12 * i + 8) b → PutRow old new i kind a b
+    → Put4 (set old (12 * i) kind) mid (12 * i + 4) a → Put4 mid new (12 * i + 8) b → PutRow old new i (scan_row kind a b)
 unfolding row_element scan_row_at
 put_rows old i kind a b mid new room p q =
     let back : (m : ℕ) → (m < 12 * i) → get_or new m 0 ≡ get_or old m 0 =

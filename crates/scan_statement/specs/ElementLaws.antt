@@ -8,12 +8,13 @@ use Prim.Native.Nat.{ℕ, ◌+◌, ◌*◌, ◌<◌, ◌^◌}
 use native.Mathlib.Omega.{arith}
 use Rattle.std.proofs.Math.ListN.{length, take, drop}
 use Rattle.base.specs.Current.{current}
-use Rattle.encoding.specs.Splices.{splice, length-splice}
+use Rattle.encoding.specs.Splices.{splice}
 use Rattle.evaluator.specs.Appending.{AppendsAll}
 use Rattle.syntax.specs.Program as Program
 use Rattle.machine.specs.Expressions.{element_in}
 use Rattle.machine.specs.Scanning.{Valued, fixed_at, valued_in}
 use Rattle.machine.specs.State.{Memory}
+use Rattle.scan.specs.declared.Element.TheVariants as lines
 use Rattle.scanning.specs.Splits.{string, fixed, free}
 use Rattle.effects.specs.Fillers.{named_string}
 use Rattle.effects.specs.Leaving.{BufferSpells, Completion}
@@ -42,9 +43,6 @@ module _ (values bytes : List ℕ) (i k : ℕ) (strings : length values ≡ 2048
       ap (λ (l : List ℕ). take (1024 * i) values ++ (bytes ++ l))
       (drop-drop k (1024 * i) values ∙ ap (λ (j : ℕ). drop j values) end)
 
-  pub back-length : i < 20 → length back ≡ 20480
-  back-length few = ap length back-splice ∙ length-splice values (1024 * i) bytes (omega arith) ∙ strings
-
   -- a value appended there to nothing stands there
   pub added_stands : {before : List ℕ} {n notes : ℕ} {w : Result (List ℕ)} (a : AppendsAll before bytes 0 n notes w) → Stands values back i n a.value
   added_stands {before} {n} {notes} {w} a =
@@ -52,7 +50,7 @@ module _ (values bytes : List ℕ) (i k : ℕ) (strings : length values ≡ 2048
 
 module _ (values rows rows_left names : List ℕ) (i : ℕ) where
   -- a fixed filler whose length is negative
-  pub fixed_negative : (s : ℕ) (z : ℤ) → is_negative z ≡ true → PutRow rows rows_left i 1 0 0
+  pub fixed_negative : (s : ℕ) (z : ℤ) → is_negative z ≡ true → PutRow rows rows_left i (lines.Part 0 0)
       → ElementRowPut values values rows rows_left names (set names i 32) i 1 (fixed_at s z)
   unfolding fixed_at named_string
   fixed_negative s z e p =
@@ -66,7 +64,7 @@ module _ (values rows rows_left names : List ℕ) (i : ℕ) where
       }
 
   -- one whose length is not
-  pub fixed_natural : (s : ℕ) (z : ℤ) (n : ℕ) → is_negative z ≡ false → n ≡ nat_abs z → n < 2 ^ 32 → s < 32 → PutRow rows rows_left i 2 n 0
+  pub fixed_natural : (s : ℕ) (z : ℤ) (n : ℕ) → is_negative z ≡ false → n ≡ nat_abs z → n < 2 ^ 32 → s < 32 → PutRow rows rows_left i (lines.Fixed n)
       → ElementRowPut values values rows rows_left names (set names i s) i 0 (fixed_at s z)
   unfolding fixed_at named_string pure
   fixed_natural s z n e is small known p =
@@ -80,7 +78,7 @@ module _ (values rows rows_left names : List ℕ) (i : ℕ) where
       }
 
   module _ (m : Memory) where
-    pub free_put : (s : ℕ) → s < 32 → PutRow rows rows_left i 3 0 0
+    pub free_put : (s : ℕ) → s < 32 → PutRow rows rows_left i lines.Free
         → ElementRowPut values values rows rows_left names (set names i s) i 0 (valued_in current m (Program.free_filler s))
     unfolding valued_in named_string pure
     free_put s known p =

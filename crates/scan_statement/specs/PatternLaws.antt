@@ -14,7 +14,7 @@ use Rattle.base.specs.ListLaws.{stretch_cut}
 use Rattle.encoding.specs.Splices.{length-splice, take-splice, drop-splice}
 use Rattle.store.specs.CellLaws.{drop-take}
 use Rattle.machine.specs.Scanning.{Valued}
-use Rattle.scan.specs.Rows.{scan_row, row_element, scan_element, scan_elements, pattern_of, RowGood, GoodRows}
+use Rattle.scan.specs.Rows.{row_element, scan_element, scan_elements, pattern_of, RowGood, GoodRows}
 use Rattle.scan.specs.declared.Element as Lines
 use Rattle.scan.specs.declared.Element.TheVariants as lines
 use Rattle.scanning.specs.Splits.{Element, string, fixed, free}
@@ -25,36 +25,34 @@ use Rattle.scan_statement.specs.PuttingLaws.{good_put, pattern-put}
 
 module _ (values rows rows_left : List ℕ) (i : ℕ) where
   -- a free filler
-  pub row_free : PutRow rows rows_left i 3 0 0 → RowPut values values rows rows_left i free
-  unfolding scan_row scan_element rowed RowGood
-  row_free p = record { kind = 3; from = 0; to = 0; row = p; good = tt; element = refl; before = refl }
+  pub row_free : PutRow rows rows_left i lines.Free → RowPut values values rows rows_left i free
+  unfolding scan_element rowed RowGood
+  row_free p = record { is = lines.Free; row = p; good = tt; element = refl; before = refl }
 
   -- a row that says how long its piece is
   row_sized : (left : List ℕ) → values_of left i ≡ values_of values i → (n : ℕ) (e : Element) → n < 2 ^ 32 → fixed n ≡ rowed e
-      → PutRow rows rows_left i 2 n 0 → RowPut values left rows rows_left i e
-  unfolding scan_row scan_element RowGood
-  row_sized left same n e h is p = record { kind = 2; from = n; to = 0; row = p; good = h; element = is; before = same }
+      → PutRow rows rows_left i (lines.Fixed n) → RowPut values left rows rows_left i e
+  unfolding scan_element RowGood
+  row_sized left same n e h is p = record { is = lines.Fixed n; row = p; good = h; element = is; before = same }
 
   -- a fixed filler
-  pub row_fixed : (n : ℕ) → n < 2 ^ 32 → PutRow rows rows_left i 2 n 0 → RowPut values values rows rows_left i (fixed n)
+  pub row_fixed : (n : ℕ) → n < 2 ^ 32 → PutRow rows rows_left i (lines.Fixed n) → RowPut values values rows rows_left i (fixed n)
   unfolding rowed
   row_fixed n h p = row_sized values refl n (fixed n) h refl p
 
   -- a null string
-  pub row_null : PutRow rows rows_left i 1 0 0 → RowPut values values rows rows_left i (string [])
-  unfolding scan_row scan_element rowed RowGood
+  pub row_null : PutRow rows rows_left i (lines.Part 0 0) → RowPut values values rows rows_left i (string [])
+  unfolding scan_element rowed RowGood
   row_null p =
       record {
-        kind = 1;
-        from = 0;
-        to = 0;
+        is = lines.Part 0 0;
         row = p;
         good = record { order = omega arith; inside = omega arith; small = omega arith };
         element = refl;
         before = refl;
       }
 
-  module _ (n : ℕ) (s : StringPutting rows i n) (left w : List ℕ) (stands : Stands values left i n w) where
+  module _ (n : ℕ) (s : StringPutting i n) (left w : List ℕ) (stands : Stands values left i n w) where
     abbrev u : List ℕ
     u = stands.bytes
 
@@ -64,7 +62,7 @@ module _ (values rows rows_left : List ℕ) (i : ℕ) where
         ap (take (1024 * i)) stands.left_is ∙ take-splice values (1024 * i) u (omega (arith, stands.strings, s.few))
 
     -- a string that is longer than any reference
-    pub row_long : 1024 < n → PutRow rows rows_left i 2 n 0 → RowPut values left rows rows_left i (string w)
+    pub row_long : 1024 < n → PutRow rows rows_left i (lines.Fixed n) → RowPut values left rows rows_left i (string w)
     unfolding rowed
     row_long h p =
         let spelt = stands.spells in
@@ -72,8 +70,8 @@ module _ (values rows rows_left : List ℕ) (i : ℕ) where
         row_sized left values-before n (string w) (omega (arith, s.short)) (rw (lt-ltb 1024 (length w) long, spelt.size) refl) p
 
     -- one that may fit
-    pub row-string : n ≤ 1024 → PutRow rows rows_left i 1 (1024 * i) (1024 * i + n) → RowPut values left rows rows_left i (string w)
-    unfolding scan_row scan_element rowed RowGood
+    pub row-string : n ≤ 1024 → PutRow rows rows_left i (lines.Part (1024 * i) (1024 * i + n)) → RowPut values left rows rows_left i (string w)
+    unfolding scan_element rowed RowGood
     row-string h p =
         let at = 1024 * i in
         let spelt = stands.spells in
@@ -94,9 +92,7 @@ module _ (values rows rows_left : List ℕ) (i : ℕ) where
         ∙ spelt.bytes
         ∙ take_all 1024 w fits in
         record {
-          kind = 1;
-          from = at;
-          to = at + n;
+          is = lines.Part at (at + n);
           row = p;
           good = record { order = omega arith; inside = omega arith; small = omega (arith, s.few) };
           element = ap string bytes ∙ rw (le-ltb 1024 (length w) fits) refl;
@@ -182,9 +178,9 @@ module _ (values rows names : List ℕ) (i : ℕ) (vs : List Valued) (p : Rowed 
         ap (λ (l : List ℕ). pattern_of l rows i) more-values ∙ pattern-front front rest rows i p.good ∙ p.pattern in
         record {
           size = length-append vs (v ∷ []) ∙ ap (λ (k : ℕ). k + 1) p.size;
-          good = good_put now rows rows_left i q.kind q.from q.to q.row few (omega arith) q.good good;
+          good = good_put now rows rows_left i q.is q.row few (omega arith) q.good good;
           pattern =
-              pattern-put now rows rows_left i q.kind q.from q.to q.row
+              pattern-put now rows rows_left i q.is q.row
               ∙ ap₂ (λ (l : List Element) (x : Element). l ++ (x ∷ [])) before q.element
               ∙ sym (map-append (λ u. rowed u.element) vs (v ∷ []));
           places = names_more place e size is;

@@ -10,7 +10,8 @@ use Rattle.decoder.specs.Meaning.{patterns_meaning}
 use Rattle.decoder.specs.declared.Element as Table
 use Rattle.decoder.specs.declared.PatternElement.{PatternElement}
 use Rattle.decoder.specs.declared.Stretch.{Stretch}
-use Rattle.scan.specs.Rows.{scan_row, scan_element, pattern_of, RowGood, GoodRows}
+use Rattle.scan.specs.declared.Element as Lines
+use Rattle.scan.specs.Rows.{scan_element, pattern_of, RowGood, GoodRows}
 use Rattle.scanning.specs.Splits.{Element, string, fixed, free}
 use Rattle.effects.specs.Fillers.{is_filler, named_string, PlacesNamed}
 use Rattle.effects.specs.Leaving.{BufferSpells, Completion}
@@ -28,25 +29,16 @@ rowed free = free
 abbrev pub values_of : List ℕ → ℕ → List ℕ
 values_of values n = take (1024 * n) values
 
--- the buffers that a pattern's values are put into
-pub record PatternBuffers (values rows names : List ℕ) : Type 0 where
-  pub strings : length values ≡ 20480
-  pub lines : length rows ≡ 240
-  pub places : length names ≡ 20
-
 -- row i is this element, and the rows before it are as they were
 pub record RowPut (values left rows rows_left : List ℕ) (i : ℕ) (e : Element) : Type 0 where
-  pub kind : ℕ
-  pub from : ℕ
-  pub to : ℕ
-  pub row : PutRow rows rows_left i kind from to
-  pub good : RowGood (values_of left (i + 1)) (scan_row kind from to)
-  pub element : scan_element (values_of left (i + 1)) (scan_row kind from to) ≡ rowed e
+  pub is : Lines.Element
+  pub row : PutRow rows rows_left i is
+  pub good : RowGood (values_of left (i + 1)) is
+  pub element : scan_element (values_of left (i + 1)) is ≡ rowed e
   pub before : values_of left i ≡ values_of values i
 
 -- a string of n bytes to be put into row i
-pub record StringPutting (rows : List ℕ) (i n : ℕ) : Type 0 where
-  pub lines : length rows ≡ 240
+pub record StringPutting (i n : ℕ) : Type 0 where
   pub few : i < 20
   pub short : n ≤ table_size
 
@@ -58,17 +50,14 @@ pub record Stands (values left : List ℕ) (i n : ℕ) (w : List ℕ) : Type 0 w
   pub left_is : left ≡ splice values (1024 * i) bytes
   pub spells : BufferSpells bytes n w
 
-pub record StringPut (rows rows_left : List ℕ) (i n : ℕ) : Type 0 where
-  pub lines : length rows_left ≡ 240
-  pub row : (values left w : List ℕ) → Stands values left i n w → RowPut values left rows rows_left i (string w)
+abbrev pub StringPut : (rows rows_left : List ℕ) → (i n : ℕ) → Type 0
+StringPut rows rows_left i n = (values left w : List ℕ) → Stands values left i n w → RowPut values left rows rows_left i (string w)
 
 -- an element of a string expression to be put into row i
-pub record ValuePutting (table : List ℕ) (x : Table.Element) (i : ℕ) (values rows : List ℕ) : Type 0 where
+pub record ValuePutting (table : List ℕ) (x : Table.Element) (i : ℕ) : Type 0 where
   pub bytes : table_size ≤ length table
   pub holds : ElementHolds x
   pub few : i < 20
-  pub strings : length values ≡ 20480
-  pub lines : length rows ≡ 240
 
 pub record ValueDone (values left rows rows_left : List ℕ) (i notes : ℕ) (w : Result (List ℕ)) : Type 0 where
   pub value : List ℕ
@@ -78,11 +67,6 @@ pub record ValueDone (values left rows rows_left : List ℕ) (i notes : ℕ) (w 
 abbrev pub ValueBy : Completion → (values left rows rows_left : List ℕ) → ℕ → Result (List ℕ) → Type 0
 ValueBy (Ok notes) values left rows rows_left i w = ValueDone values left rows rows_left i notes w
 ValueBy (Err s) values left rows rows_left i w = w ≡ stop (stop_number s)
-
-pub record ValuePut (r : Completion) (values left rows rows_left : List ℕ) (i : ℕ) (w : Result (List ℕ)) : Type 0 where
-  pub put : ValueBy r values left rows rows_left i w
-  pub strings : length left ≡ 20480
-  pub lines : length rows_left ≡ 240
 
 -- row i and its place are those of an element of the pattern
 pub record ElementRowPut (values left rows rows_left names names_left : List ℕ) (i notes : ℕ) (w : Result Valued) : Type 0 where
@@ -94,26 +78,21 @@ pub record ElementRowPut (values left rows rows_left names names_left : List ℕ
   pub name : valued.names ≡ named_string place
 
 -- a fixed filler to be put into row i
-pub record FixedPutting (z : Int) (s i : ℕ) (rows names : List ℕ) : Type 0 where
+pub record FixedPutting (z : Int) (place i : ℕ) : Type 0 where
   pub range : IntInRange z
-  pub known : s < 32
+  pub known : place < 32
   pub few : i < 20
-  pub lines : length rows ≡ 240
-  pub places : length names ≡ 20
 
-pub record FixedPut (z : Int) (s i : ℕ) (rows rows_left names names_left : List ℕ) (notes : ℕ) : Type 0 where
-  pub put : (values : List ℕ) → length values ≡ 20480
-      → ElementRowPut values values rows rows_left names names_left i notes (fixed_at s z.value)
-  pub lines : length rows_left ≡ 240
-  pub places : length names_left ≡ 20
+abbrev pub FixedPut : Int → (place i : ℕ) → (rows rows_left names names_left : List ℕ) → (notes : ℕ) → Type 0
+FixedPut z place i rows rows_left names names_left notes =
+    (values : List ℕ) → ElementRowPut values values rows rows_left names names_left i notes (fixed_at place z.value)
 
 -- an element of a pattern to be put into row i
-pub record ElementPutting (table : List ℕ) (x : PatternElement) (i : ℕ) (values rows names : List ℕ) : Type 0 where
+pub record ElementPutting (table : List ℕ) (x : PatternElement) (i : ℕ) : Type 0 where
   pub bytes : table_size ≤ length table
   pub searched : ℕ
   pub holds : PatternHolds searched x
   pub few : i < 20
-  pub buffers : PatternBuffers values rows names
 
 abbrev pub ElementRowPutBy : Completion → (values left rows rows_left names names_left : List ℕ) → ℕ → Result Valued → Type 0
 ElementRowPutBy (Ok notes) values left rows rows_left names names_left i w = ElementRowPut values left rows rows_left names names_left i notes w
@@ -121,14 +100,12 @@ ElementRowPutBy (Err s) values left rows rows_left names names_left i w = w ≡ 
 
 pub record ElementPut (r : Completion) (values left rows rows_left names names_left : List ℕ) (i : ℕ) (w : Result Valued) : Type 0 where
   pub put : ElementRowPutBy r values left rows rows_left names names_left i w
-  pub buffers : PatternBuffers left rows_left names_left
 
 -- a pattern of a table whose values can be put into the buffers
-pub record PatternPutting (table : List ℕ) (s : Stretch) (values rows names : List ℕ) : Type 0 where
+pub record PatternPutting (table : List ℕ) (s : Stretch) : Type 0 where
   pub bytes : table_size ≤ length table
   pub searched : ℕ
   pub pattern : PatternsHold table searched s
-  pub buffers : PatternBuffers values rows names
 
 -- so many rows and places are those of the elements of a pattern with their values
 pub record Rowed (values rows names : List ℕ) (count : ℕ) (vs : List Valued) : Type 0 where
@@ -152,7 +129,3 @@ pub record AllPut (table values rows names : List ℕ) (s : Stretch) (notes : �
 abbrev pub AllBy : Completion → (table values rows names : List ℕ) → Stretch → Result (List Valued) → Type 0
 AllBy (Ok notes) table values rows names s w = AllPut table values rows names s notes w
 AllBy (Err why) table values rows names s w = w ≡ stop (stop_number why)
-
-pub record PatternPut (r : Completion) (table values rows names : List ℕ) (s : Stretch) (w : Result (List Valued)) : Type 0 where
-  pub put : AllBy r table values rows names s w
-  pub buffers : PatternBuffers values rows names

@@ -6,7 +6,7 @@ use Rattle.std.proofs.Math.Path.{ap}
 use Prim.Native.Nat.{ℕ, zero, suc, ◌+◌, ◌*◌, ◌<◌}
 use native.Mathlib.Omega.{arith}
 use Rattle.scanning.specs.Splits as Splits
-use Rattle.scan.specs.Rows.{scan_row, row_element, scan_element, scan_elements, pattern_of, RowGood, GoodRows}
+use Rattle.scan.specs.Rows.{row_element, scan_element, scan_elements, pattern_of, RowGood, GoodRows}
 use Rattle.scan.specs.declared.Element.{Element}
 use Rattle.scan.proofs.Calls.{elements-more}
 use Rattle.scan_statement.specs.Putting.{PutRow}
@@ -21,13 +21,13 @@ elements_same values rows rows' (suc n) i h =
     ∙ ap (λ (p : List Splits.Element). scan_element values (row_element rows i) ∷ p)
     (elements_same values rows rows' n (i + 1) (λ j l. h j (omega arith)))
 
-module _ (values old new : List ℕ) (n kind a b : ℕ) (p : PutRow old new n kind a b) where
+module _ (values old new : List ℕ) (n : ℕ) (x : Element) (p : PutRow old new n x) where
   -- the pattern ends with the row's element
-  pub pattern-put : pattern_of values new (n + 1) ≡ pattern_of values old n ++ (scan_element values (scan_row kind a b) ∷ [])
+  pub pattern-put : pattern_of values new (n + 1) ≡ pattern_of values old n ++ (scan_element values x ∷ [])
   unfolding pattern_of
   pattern-put =
       let one : n + 1 ≡ suc n = omega arith in
-      let row : row_element new (0 + n) ≡ scan_row kind a b = ap (row_element new) (omega arith) ∙ p.here in
+      let row : row_element new (0 + n) ≡ x = ap (row_element new) (omega arith) ∙ p.here in
       ap (λ (k : ℕ). scan_elements values new k 0) one
       ∙ elements-more values new n 0
       ∙ ap (λ (q : List Splits.Element). q ++ (scan_element values (row_element new (0 + n)) ∷ []))
@@ -35,7 +35,7 @@ module _ (values old new : List ℕ) (n kind a b : ℕ) (p : PutRow old new n ki
       ∙ ap (λ (e : Element). scan_elements values old n 0 ++ (scan_element values e ∷ [])) row
 
   -- its rows are good where this one is
-  pub good_put : n < 20 → 12 * n + 11 < length old → RowGood values (scan_row kind a b) → GoodRows values old n → GoodRows values new (n + 1)
+  pub good_put : n < 20 → 12 * n + 11 < length old → RowGood values x → GoodRows values old n → GoodRows values new (n + 1)
   good_put few room good g =
       record {
         few = omega arith;

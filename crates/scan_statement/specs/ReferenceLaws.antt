@@ -4,13 +4,14 @@ use Rattle.std.proofs.Common.{sym, ◌∙◌, arith}
 use Rattle.std.proofs.Math.Path.{ap}
 use Rattle.base.specs.Current.{current}
 use Rattle.encoding.specs.BufferLaws.{StoreGood, good_short}
-use Rattle.encoding.specs.Splices.{splice, length-splice, take-front}
+use Rattle.encoding.specs.Splices.{splice, take-front}
 use Rattle.store.specs.Clauses.{string_of}
 use Rattle.evaluator.specs.Memory.{memory_in}
 use Rattle.machine.specs.Bounds.{turned-length}
 use Rattle.machine.specs.Scanning.{leaving, pattern_in, scanning_in, searched_in, turned, without_fillers}
-use Rattle.decoder.specs.Meaning.{direction_meaning, part_meaning, patterns_meaning, replacement_meaning}
-use Rattle.decoder.specs.declared.Direction.{Direction}
+use Rattle.decoder.specs.Meaning.{part_meaning, patterns_meaning, replacement_meaning}
+use Rattle.encoding.specs.Meaning.{direction_meaning}
+use Rattle.encoding.specs.declared.cells.Direction.{Direction}
 use Rattle.decoder.specs.declared.Scan.{Scan}
 use Rattle.effects.specs.References.{reference_of, searched_at}
 use Rattle.effects.specs.Valued.{Between}
@@ -37,11 +38,6 @@ module _ (store : List ℕ) (at : Span) (g : StoreGood store) (b : Between store
     copied_reference =
         let v = turned (direction_meaning d) (reference_of store at.place at.from at.to) in
         ap (λ (n : ℕ). take n after) (sym turned-size) ∙ ap (take (length v)) e ∙ take-front before v
-
-    pub copied_length : length before ≡ 1024 → length after ≡ 1024
-    copied_length size =
-        let v = turned (direction_meaning d) (reference_of store at.place at.from at.to) in
-        ap length e ∙ length-splice before 0 v (omega (arith, turned-size, reference_fits)) ∙ size
 
 module _ (table store state : List ℕ) (s : Scan) where
   -- with a reference, the work is what is left of it

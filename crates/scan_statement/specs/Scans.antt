@@ -3,11 +3,11 @@ use Rattle.std.specs.Prelude as std
 use Rattle.std.specs.Prelude.{Bool, true, false, List, Ok, Err, ◌≡◌, ℕ, ◌≤◌, length}
 use Rattle.std.proofs.Math.Option.{Option, none, some}
 use Rattle.base.specs.Current.{current, table_size}
-use Rattle.encoding.specs.BufferLaws.{StoreGood}
 use Rattle.evaluator.specs.Memory.{MemoryReady, memory_in}
 use Rattle.machine.specs.Scanning.{ScanLeft, scanning_in}
 use Rattle.decoder.specs.Holds.{PartHolds, PatternsHold, ReplacementHolds, ScanHolds, searched_place}
-use Rattle.decoder.specs.Meaning.{direction_meaning, part_meaning, patterns_meaning, replacement_meaning}
+use Rattle.decoder.specs.Meaning.{part_meaning, patterns_meaning, replacement_meaning}
+use Rattle.encoding.specs.Meaning.{direction_meaning}
 use Rattle.decoder.specs.declared.Scan.{Scan}
 use Rattle.scanning.specs.Call.{answer_numbers}
 use Rattle.scanning.specs.Splits.{Split}
@@ -37,11 +37,6 @@ holds_scannable bytes ready h =
       pattern = h.pattern;
       replacement = h.replacement;
     }
-
--- The large buffers lent to a scan. Their bytes don't count, but the store that is to keep the fillers is a good one.
-pub record ScanLent (values kept : List ℕ) : Type 0 where
-  pub twenty_strings : length values ≡ 20480
-  pub good : StoreGood kept
 
 -- the work of the statement in the memory of these buffers
 abbrev pub scanning_of : (table store state : List ℕ) → Scan → Result ScanLeft

@@ -1,11 +1,12 @@
 -- Laws of a scan's answer: whether it has a split, where the pieces lie, and what naming them leaves. Assumes nothing.
-use Rattle.std.specs.Prelude.{Bool, true, false, ◌≡◌, refl, ℕ, ◌+◌, ◌-◌, ◌≤◌, ◌<◌, length, drop, set, replicate}
+use Rattle.std.specs.Prelude.{Bool, true, false, sum, ◌≡◌, refl, ℕ, ◌+◌, ◌-◌, ◌≤◌, length, drop, set, replicate}
 use mathlib.Core.List.{List, [], ◌∷◌, ◌++◌, map, map-map}
 use Rattle.std.proofs.Math.Option.{Option, none, some}
-use Rattle.std.proofs.Common.{sym, ap, ap₂, ◌∙◌, arith, length-append, length-drop, drop_of_length-le, take_at}
+use Rattle.std.proofs.Common.{sym, ap, ap₂, ◌∙◌, arith, length-append, length-drop, take_at}
 use Rattle.std.proofs.Math.Path.{subst}
 use Rattle.std.proofs.Math.ListN.{get_or}
-use Rattle.std.proofs.lemmas.List.{drop_more, length-replicate}
+use Rattle.std.proofs.lemmas.List.{length-replicate}
+use Rattle.std.proofs.lemmas.List.Sums.{sum_by-cons}
 use Rattle.encoding.specs.ReadingLaws.{rows_length}
 use Rattle.base.specs.Lists.{total}
 use Rattle.machine.specs.Scanning.{Valued, naming}
@@ -24,14 +25,11 @@ use Rattle.scan_statement.specs.LongLaws.{scan-rowed}
 use Rattle.scan_statement.specs.Patterns.{Rowed, rowed}
 use Rattle.scan_statement.specs.Searches.{SplitFound, RowsSearchable, SplitSearched, scan_of}
 
--- the sum of the numbers of a list from one on, and from its end on
-pub total-next : (ls : List ℕ) (i : ℕ) → i < length ls → total (λ l. l) (drop i ls) ≡ get_or ls i 0 + total (λ l. l) (drop (i + 1) ls)
+-- a list's sum is the total of its numbers
+pub sum_total : (ls : List ℕ) → sum ls ≡ total (λ l. l) ls
 unfolding total
-total-next ls i h = ap (total (λ l. l)) (drop_more ls i 0 h)
-
-pub total_end : (ls : List ℕ) (i : ℕ) → length ls ≤ i → total (λ l. l) (drop i ls) ≡ 0
-unfolding total
-total_end ls i h = ap (total (λ l. l)) (drop_of_length-le ls {i = i} h)
+sum_total [] = refl
+sum_total (l ∷ ls) = sum_by-cons (λ n. n) l ls ∙ ap (λ (n : ℕ). l + n) (sum_total ls)
 
 -- an answer with other notes
 split-noted : (o : Option Split) (trials n k : ℕ) → set (split_numbers o trials n) 3 k ≡ split_numbers o trials k
@@ -104,13 +102,13 @@ pub finds_as : {is b : Bool} {table store left : List ℕ} {s : Stretch} {refere
 finds_as {table = table} {store} {left} {s} {reference} {answer = answer} f e {vs} r =
     subst (λ (t : Bool). SplitFound t table store left s reference answer vs) e (f.finds vs r)
 
-module _ {table store : List ℕ} {s : Stretch} {reference values rows names : List ℕ} (q : RowsSearchable table store s reference values rows names)
+module _ {table store : List ℕ} {s : Stretch} {reference values rows : List ℕ} (q : RowsSearchable table store s reference values rows)
     {answer : List ℕ} (answer_is : answer ≡ answer_numbers 0 (scan (pattern_of values rows s.count) reference)) where
   abbrev pattern : List Element
   pattern = pattern_of values rows s.count
 
   -- the scan of the pattern with its values
-  scan-is : (vs : List Valued) → Rowed values rows names s.count vs → scan pattern reference ≡ scan_of vs reference
+  scan-is : {names : List ℕ} (vs : List Valued) → Rowed values rows names s.count vs → scan pattern reference ≡ scan_of vs reference
   scan-is vs r =
       ap (λ (p : List Element). scan p reference) (r.pattern ∙ sym (map-map rowed (λ v. v.element) vs))
       ∙ sym (scan-rowed (map (λ v. v.element) vs) reference q.short)
@@ -128,7 +126,7 @@ module _ {table store : List ℕ} {s : Stretch} {reference values rows names : L
       subst (Has a.split) (sym answer_is)
       (split_some a.split a.trials 0 (λ e. h (ap (λ (l : List ℕ). get_or l 0 0) answer_is ∙ e)))
 
-  pub missed : get_or answer 0 0 ≡ 0 → {nulled : List ℕ} → Nulled table s store nulled
+  pub missed : get_or answer 0 0 ≡ 0 → {names nulled : List ℕ} → Nulled table s store nulled
       → SplitSearched false table store nulled s reference values rows names answer
   missed e n =
       record {
@@ -155,22 +153,21 @@ module _ {table store : List ℕ} {s : Stretch} {reference values rows names : L
     within : found.split.start + total (λ l. l) found.split.lengths ≤ length reference
     within = split_within pattern reference found.split fits
 
-    pub nameable : {nulled : List ℕ} → Nulled table s store nulled → Nameable nulled reference names answer s.count
-    nameable n =
+    pub nameable : {names nulled : List ℕ} → length names ≡ 20 → Nulled table s store nulled → Nameable nulled reference names answer s.count
+    nameable size n =
         record {
           good = n.stays.good;
           few = q.lines.few;
-          places = omega (arith, q.places, q.lines.few);
+          places = omega (arith, q.lines.few);
           short = q.short;
-          size = found.size (omega (arith, counted, q.lines.few));
           pieces =
               subst (λ (k : ℕ). k + total (λ l. l) (lengths_in answer s.count) ≤ length reference) (sym found.start)
               (subst (λ (ls : List ℕ). found.split.start + total (λ l. l) ls ≤ length reference) (sym (found.lengths s.count counted)) within);
         }
 
-    pub named : {nulled left : List ℕ} → Nulled table s store nulled → PiecesNamed nulled left reference names answer s.count
+    pub named : {names nulled left : List ℕ} → Nulled table s store nulled → PiecesNamed nulled left reference names answer s.count
         → SplitSearched true table store left s reference values rows names answer
-    named {nulled} {left} n m =
+    named {names} {nulled} {left} n m =
         record {
           stays = stays_on n.stays m.stays;
           finds =

@@ -23,13 +23,12 @@ abbrev pub scan_of : List Valued → List ℕ → Trials.Scanned
 scan_of vs reference = scan (map (λ v. v.element) vs) reference
 
 -- rows that can be searched for, with a store for the fillers
-pub record RowsSearchable (table store : List ℕ) (s : Stretch) (reference values rows names : List ℕ) : Type 0 where
+pub record RowsSearchable (table store : List ℕ) (s : Stretch) (reference values rows : List ℕ) : Type 0 where
   pub bytes : table_size ≤ length table
   pub inside : s.from + s.count ≤ 1024
   pub good : StoreGood store
   pub short : length reference ≤ 1024
   pub lines : GoodRows values rows s.count
-  pub places : length names ≡ 20
 
 -- the pieces of a split are named, and every string that is no filler is as it was
 pub record PiecesFound (table store left : List ℕ) (s : Stretch) (reference answer : List ℕ) (vs : List Valued) : Type 0 where

@@ -23,8 +23,9 @@ use Rattle.machine.specs.Bounds.{turned-length}
 use Rattle.machine.specs.Scanning.{ScanLeft, Searched, Valued, leaving, naming, replacing, storing, turned, without_fillers}
 use Rattle.machine.specs.State.{Memory}
 use Rattle.decoder.specs.Holds.{ReplacementHolds}
-use Rattle.decoder.specs.Meaning.{direction_meaning, elements_meaning, patterns_meaning, replacement_meaning}
-use Rattle.decoder.specs.declared.Direction.{Direction}
+use Rattle.decoder.specs.Meaning.{elements_meaning, patterns_meaning, replacement_meaning}
+use Rattle.encoding.specs.Meaning.{direction_meaning}
+use Rattle.encoding.specs.declared.cells.Direction.{Direction}
 use Rattle.decoder.specs.declared.Stretch.{Stretch}
 use Rattle.scanning.specs.Trials as Trials
 use Rattle.effects.specs.FillerLaws.{put_back, stays_on}
@@ -85,7 +86,7 @@ module _ {table store state : List ℕ} {d : Direction} {at : Span} {pattern : S
   searched_short = omega (arith, searched-length, q.between.within, good_short store q.ready.strings at.place)
 
   -- so the rows can be searched for
-  pub findable_searchable : RowsSearchable table store pattern reference values rows names
+  pub findable_searchable : RowsSearchable table store pattern reference values rows
   findable_searchable =
       record {
         bytes = q.bytes;
@@ -93,7 +94,6 @@ module _ {table store state : List ℕ} {d : Direction} {at : Span} {pattern : S
         good = q.ready.strings;
         short = searched_short;
         lines = q.put.rows_are.good;
-        places = q.places;
       }
 
   -- and the lengths of the pieces found be added up
@@ -101,7 +101,7 @@ module _ {table store state : List ℕ} {d : Direction} {at : Span} {pattern : S
   found_counting {answer = answer} f =
       let n = f.by in
       let sum : total (λ l. l) (lengths_in answer pattern.count) ≡ total (λ l. l) n.split.lengths = ap (total (λ l. l)) n.lengths in
-      record { size = n.size; few = q.fillers.few; short = omega (arith, sum, n.pieces, searched_short) }
+      record { few = q.fillers.few; short = omega (arith, sum, n.pieces, searched_short) }
 
   module _ (r : Option (List Program.Element)) where
     -- the work that is left, for the values and the reference that there are

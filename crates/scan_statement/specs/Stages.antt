@@ -12,8 +12,9 @@ use Rattle.syntax.specs.Program as Program
 use Rattle.machine.specs.Scanning.{ScanLeft, Valued, leaving, pattern_in, turned, without_fillers}
 use Rattle.machine.specs.State.{Memory}
 use Rattle.decoder.specs.Holds.{PatternsHold, ReplacementHolds, searched_place}
-use Rattle.decoder.specs.Meaning.{direction_meaning, patterns_meaning}
-use Rattle.decoder.specs.declared.Direction.{Direction}
+use Rattle.decoder.specs.Meaning.{patterns_meaning}
+use Rattle.encoding.specs.Meaning.{direction_meaning}
+use Rattle.encoding.specs.declared.cells.Direction.{Direction}
 use Rattle.decoder.specs.declared.Scan.{Scan}
 use Rattle.decoder.specs.declared.Stretch.{Stretch}
 use Rattle.effects.specs.Fillers.{Copied, lengths_in}
@@ -42,7 +43,6 @@ module _ (table store state : List ℕ) (d : Direction) (at : Span) (pattern : S
 
 -- an answer whose lengths can be added up
 pub record LengthsCounted (answer : List ℕ) (count : ℕ) : Type 0 where
-  pub size : length answer ≡ 24
   pub few : count ≤ 20
   pub short : total (λ l. l) (lengths_in answer count) ≤ 1024
 
@@ -55,7 +55,6 @@ pub record Findable (table store state : List ℕ) (d : Direction) (at : Span) (
   pub fillers : PatternsHold table at.place pattern
   pub turned-is : reference ≡ turned (direction_meaning d) (reference_of store at.place at.from at.to)
   pub put : AllPut table values rows names pattern notes (pattern_in current (memory_in store state) (patterns_meaning table pattern))
-  pub places : length names ≡ 20
 
 -- the fillers of a scan with a replacement are kept
 pub record Saved (x : Prelude.Option Stretch) (table : List ℕ) (pattern : Stretch) (store kept left : List ℕ) : Type 0 where

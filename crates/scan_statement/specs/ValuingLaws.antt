@@ -1,5 +1,5 @@
 -- A pattern's values, element by element: the whole comes to the values so far and what the elements left come to. Assumes nothing.
-use Rattle.std.specs.Prelude.{false, Ok, Err, ◌||◌, ◌≡◌, refl, ℕ, ◌+◌, ◌*◌, ◌-◌, ◌≤◌, ◌<◌, eqb}
+use Rattle.std.specs.Prelude.{false, Ok, Err, ◌||◌, ◌≡◌, refl, ℕ, ◌+◌, ◌*◌, ◌-◌, ◌≤◌, ◌<◌, eqb, length}
 use mathlib.Core.List.{List, [], ◌∷◌, ◌++◌, append_assoc, append-nil}
 use Rattle.std.proofs.Math.Path.{sym, ap, subst}
 use Rattle.std.proofs.Common.{ap₂, ◌∙◌, add-zero, ne_eqb}
@@ -28,7 +28,7 @@ use Rattle.values.specs.ResultLaws.{notes_none, notes_more, bind_notes, pure-don
 use Rattle.values.specs.Stops.{stop_number}
 use Rattle.values.specs.declared.Stop.{Stop}
 use Rattle.scan_statement.specs.PatternLaws.{rowed-all, rowed-more, rowed_none}
-use Rattle.scan_statement.specs.Patterns.{AllPut, PatternBuffers, ElementPut, ElementRowPutBy, Rowed, values_of}
+use Rattle.scan_statement.specs.Patterns.{AllPut, ElementPut, ElementRowPutBy, Rowed, values_of}
 
 -- a value in front of others, and then those so far in front of all
 pure-front : (us : List Valued) (v : Valued) (w : Result (List Valued))
@@ -90,21 +90,19 @@ holds_clear t searched known (Fixed s n) h = ne_eqb searched s (λ e. h.0.other 
 pub record RowsValued (m : Memory) (t : List ℕ) (from count : ℕ) (values rows names : List ℕ) (notes i : ℕ) : Type 0 where
   pub valued : List Valued
   pub rows_are : Rowed (values_of values i) rows names i valued
-  pub buffers : PatternBuffers values rows names
   pub most : i ≤ count
   pub few : notes ≤ i
   pub same : pattern_in current m (read_pattern t from count) ≡ valued_from m notes valued (read_pattern t (from + i) (count - i))
   pub clear : (searched : ℕ) → searched < 32 → AllHold t from count searched
       → is_filler searched (read_pattern t from count) ≡ is_filler searched (read_pattern t (from + i) (count - i))
 
-pub valuing_begins : (m : Memory) (t : List ℕ) (from count : ℕ) (values rows names : List ℕ) → PatternBuffers values rows names
+pub valuing_begins : (m : Memory) (t : List ℕ) (from count : ℕ) (values rows names : List ℕ)
     → RowsValued m t from count values rows names 0 0
-valuing_begins m t from count values rows names b =
+valuing_begins m t from count values rows names =
     let whole : count ≡ count - 0 = omega arith in
     record {
       valued = [];
       rows_are = rowed_none values rows names;
-      buffers = b;
       most = omega arith;
       few = omega arith;
       same =
@@ -165,16 +163,15 @@ module _ {m : Memory} {t : List ℕ} {from count : ℕ} {values rows names : Lis
       pub valuing_stops : {s : Stop} → r ≡ Err s → pattern_in current m (read_pattern t from count) ≡ stop (stop_number s)
       valuing_stops {s} e = here ∙ values_stop m notes (stop_number s) v.valued (pattern_meaning t x) rest (subst PutAs e p.put)
 
-      pub valuing_more : {more : ℕ} → r ≡ Ok more
+      pub valuing_more : {more : ℕ} → r ≡ Ok more → length left ≡ 20480 → length rows ≡ 240 → length names ≡ 20
           → RowsValued m t from count left rows_left names_left (notes + more) (i + 1)
-      valuing_more {more} e =
+      valuing_more {more} e strings lines places =
           let q = subst PutAs e p.put in
           record {
             valued = v.valued ++ (q.valued ∷ []);
             rows_are =
                 rowed-more values rows names i v.valued v.rows_are left rows_left names_left q.valued q.row (omega arith)
-                p.buffers.strings v.buffers.lines q.place q.places v.buffers.places q.name;
-            buffers = p.buffers;
+                strings lines q.place q.places places q.name;
             most = omega arith;
             few = omega (arith, v.few, valuing_noted e);
             same = here ∙ values-more m notes more v.valued q.valued (pattern_meaning t x) rest q.work;

@@ -8,8 +8,9 @@ pub mod putting;
 pub mod replacing;
 pub mod valuing;
 
+ghost use Rattle.encoding.specs.BufferLaws.{StoreGood};
 ghost use Rattle.decoder.specs.Meaning.{replacement_meaning};
-ghost use Rattle.scan_statement.specs.Scans.{Scannable, ScanLent, scanning_of, ScanLeaves};
+ghost use Rattle.scan_statement.specs.Scans.{Scannable, scanning_of, ScanLeaves};
 ghost use Rattle.scan_statement.specs.Stages.{Referred, searched_rest};
 
 use base::{LONGEST, ROW};
@@ -21,40 +22,37 @@ use encoding::STATE_SIZE;
 use evaluator::Memory;
 use finding::find_split;
 use replacing::{keep_fillers, replace_pieces};
-use scanning::{ANSWER_SIZE, ROW_SIZE};
+use scan::ROWS_SIZE;
+use scanning::ANSWER_SIZE;
 use values::{Noted, Stop};
 use valuing::pattern_rows;
 
-// the bytes of a pattern's values, rows and names
+// the bytes of a pattern's values; of its rows the crate scan says how many, and of the places that its pieces are to name there are as many as rows
 pub const VALUES_SIZE: usize = LONGEST * ROW;
-
-const ROWS_SIZE: usize = ROW_SIZE * ROW;
-
-const NAMES_SIZE: usize = ROW;
 
 // A scan of the bytes of a span: whether there is a split, with the notes. The fillers are kept for a replacement that stops, which puts them
 // back; its value may be written over those of the pattern, which aren't needed any more.
-// kept: tried, and the proof didn't close: values and kept as fields of a struct that has ScanLent as its invariant can't be lent as `&mut`.
+// kept: kept is a slice, since it may be longer than a store: StoreGood says at least how long it is
 fn scan_span(
     table: &[u8],
     store: &mut [u8],
     state: &[u64; STATE_SIZE],
     s: Scan,
     at: Span,
-    values: &mut [u8],
+    values: &mut [u8; VALUES_SIZE],
     kept: &mut [u8],
     answer: &mut [u32; ANSWER_SIZE],
 ) -> Result<Noted<bool>, Stop>
     requires referred { Referred table.now store.old state.now s at }
-    requires scan_lent { ScanLent values.old kept.old }
+    requires kept_good { StoreGood kept.old }
     ensures scan_leaves { ScanLeaves result store.old store.new state.now answer.new
         (searched_rest table.now store.old state.now s.direction at s.pattern
         (replacement_meaning table.now s.replacement)) }
-    ensures scan_lent_2 { ScanLent values.new kept.new }
+    ensures kept_stays { StoreGood kept.new }
 {
     let mut reference = [0u8; LONGEST];
     let mut rows = [0u8; ROWS_SIZE];
-    let mut names = [0u8; NAMES_SIZE];
+    let mut names = [0u8; ROW];
     let d = s.direction;
     let pattern = s.pattern;
     let n = at.to - at.from;
@@ -102,15 +100,15 @@ pub fn scan_step(
     store: &mut [u8],
     state: &[u64; STATE_SIZE],
     s: Scan,
-    values: &mut [u8],
+    values: &mut [u8; VALUES_SIZE],
     kept: &mut [u8],
     answer: &mut [u32; ANSWER_SIZE],
 ) -> Result<Noted<bool>, Stop>
     requires scannable { Scannable table.now store.old state.now s }
-    requires scan_lent { ScanLent values.old kept.old }
+    requires kept_good { StoreGood kept.old }
     ensures scan_leaves { ScanLeaves result store.old store.new state.now answer.new
         (scanning_of table.now store.old state.now s) }
-    ensures scan_lent_2 { ScanLent values.new kept.new }
+    ensures kept_stays { StoreGood kept.new }
 {
     let at = reference_ends(Memory { store, state }, s.direction, s.part)?;
     scan_span(table, store, state, s, at, values, kept, answer)

@@ -1,8 +1,10 @@
 // Writing the rows of a pattern. Each contract says what stands in them and that the rows before are as they were.
-ghost use Rattle.std.specs.Prelude.{◌+◌, ◌*◌, ◌<◌, ◌^◌, length};
-ghost use Rattle.scan_statement.specs.Putting.{Put4, PutRow};
+ghost use Rattle.std.specs.Prelude.{◌≡◌, ◌+◌, ◌*◌, ◌<◌, ◌^◌, length};
+ghost use Rattle.scan.specs.Rows.{scan_row};
+ghost use Rattle.scan_statement.specs.Putting.{Put4, PutRow, RowSmall};
 ghost use Rattle.scanning.specs.Kinds.{row_kind_number};
 
+use scan::Element;
 use scanning::{ROW_SIZE, RowKind};
 
 // a number as four bytes at a place, low byte first
@@ -13,13 +15,26 @@ fn put4(rows: &mut [u8], at: usize, n: usize)
     rows[at..at + 4].copy_from_slice(&(n as u32).to_le_bytes());
 }
 
-// Row i of a pattern: a string with its part's ends, a fixed filler with its length, or a free filler.
-pub fn put_row(rows: &mut [u8], i: usize, kind: RowKind, a: usize, b: usize)
+// the kind and the two numbers that an element is in its row
+fn row_of(e: Element) -> (RowKind, usize, usize)
+    requires { RowSmall e }
+    ensures { (scan_row (row_kind_number result.0) result.1 result.2 ≡ e) × (result.1 < 2 ^ 32) × (result.2 < 2 ^ 32) }
+{
+    match e {
+        Element::Part(from, to) => (RowKind::String, from, to),
+        Element::Fixed(n) => (RowKind::Fixed, n, 0),
+        Element::Free => (RowKind::Free, 0, 0),
+    }
+}
+
+// Row i of a pattern is an element.
+pub fn put_row(rows: &mut [u8], i: usize, e: Element)
     requires i_in_bounds { (12 * i + 11 < length rows.old) × (i < 20) }
-    requires a_bound { (a < 2 ^ 32) × (b < 2 ^ 32) }
-    ensures { PutRow rows.old rows.new i (row_kind_number kind) a b }
+    requires small { RowSmall e }
+    ensures { PutRow rows.old rows.new i e }
 {
     let at = ROW_SIZE * i;
+    let (kind, a, b) = row_of(e);
     rows[at] = kind.number();
     put4(rows, at + 4, a);
     put4(rows, at + 8, b);

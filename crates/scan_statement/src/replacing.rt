@@ -2,33 +2,29 @@
 // Each contract is an equation with the definitions of the crate machine.
 ghost use Rattle.std.specs.Prelude.{◌≡◌, ◌+◌, ◌-◌, ◌≤◌, length};
 ghost use Rattle.base.specs.Lists.{total};
-ghost use Rattle.decoder.specs.Meaning.{direction_meaning};
+ghost use Rattle.encoding.specs.Meaning.{direction_meaning};
 ghost use Rattle.effects.specs.Fillers.{Copying, lengths_in};
 ghost use Rattle.effects.specs.ReplacingLaws.{found_from, found_to};
 ghost use Rattle.effects.specs.Valued.{ValueStored};
 ghost use Rattle.scan_statement.specs.Stages.{LengthsCounted, Replaceable, Saved, replaced_pieces};
 
-use decoder::{Direction, Scan};
+use decoder::Scan;
 use effects::Span;
 use effects::fillers::copy_fillers;
 use effects::replacing::replace_found;
 use encoding::STATE_SIZE;
-use scanning::{LENGTHS_AT, START_AT};
+use encoding::cells::Direction;
+use scanning::{ANSWER_SIZE, LENGTHS_AT, START_AT};
 use values::Stop;
 
 // how long the pieces of a split are together
 // kept: the pattern's count stands beside the answer, which as the scan call has it (C interface) says none
-fn pieces_length(answer: &[u32], count: usize) -> usize
+fn pieces_length(answer: &[u32; ANSWER_SIZE], count: usize) -> usize
     requires { LengthsCounted answer.now count }
     ensures { result ≡ total (λ l. l) (lengths_in answer.now count) }
 {
-    let lengths = &answer[LENGTHS_AT..LENGTHS_AT + count];
-    // kept: a loop: the lengths' iterator, mapped and summed, takes 6 instructions more for each replacement
-    let mut sum: usize = 0;
-    for n in lengths {
-        sum += *n as usize;
-    }
-    sum
+    let sum: u32 = answer[LENGTHS_AT..LENGTHS_AT + count].iter().sum();
+    sum as usize
 }
 
 // Where n bytes from start on of the reference, which is turned round in a BACKSCAN, lie in the string.
@@ -51,7 +47,7 @@ pub fn replace_pieces(
     state: &[u64; STATE_SIZE],
     s: Scan,
     at: Span,
-    answer: &[u32],
+    answer: &[u32; ANSWER_SIZE],
     out: &mut [u8],
 ) -> Result<u32, Stop>
     requires replaceable { Replaceable table.now store.old state.now s at answer.now }

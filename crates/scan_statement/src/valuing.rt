@@ -1,37 +1,38 @@
 // A pattern's values, left to right, as rows for the scan, with the places that the pieces are to name.
 // Each contract is an equation with the definitions of the crate machine.
 ghost use Rattle.base.specs.Current.{current};
-ghost use Rattle.evaluator.specs.Memory.{memory_in};
+ghost use Rattle.evaluator.specs.Meaning.{memory_meaning};
 ghost use Rattle.machine.specs.Expressions.{element_in};
 ghost use Rattle.machine.specs.Scanning.{pattern_in, valued_in};
 ghost use Rattle.decoder.specs.Meaning.{element_meaning, pattern_meaning, patterns_meaning};
-ghost use Rattle.scan_statement.specs.Patterns.{StringPutting, StringPut, ValuePutting, ValuePut, FixedPutting, FixedPut};
-ghost use Rattle.scan_statement.specs.Patterns.{ElementPutting, ElementPut, PatternPutting, PatternPut};
+ghost use Rattle.scan_statement.specs.Patterns.{StringPutting, StringPut, ValuePutting, ValueBy, FixedPutting, FixedPut};
+ghost use Rattle.scan_statement.specs.Patterns.{ElementPutting, ElementPut, PatternPutting, AllBy};
 
+use crate::VALUES_SIZE;
 use crate::putting::put_row;
-use base::LONGEST;
+use base::{LONGEST, ROW};
 use decoder::{Element, PatternElement, Stretch};
 use evaluator::Memory;
 use numbers::Int;
-use scanning::RowKind;
+use scan::ROWS_SIZE;
 use values::Stop;
 
 // as the place that a piece is to name: none
-// kept: 32 for none, as effects/fillers says: a scan has its names as bytes
+// kept: 32 for none, as effects/fillers says
 const NONE: u8 = base::STRINGS as u8;
 
 // Row i is a string of n bytes, of which the first 1,024 stand among the values, where each row has as many. One that is longer fits no
 // reference, just as a fixed filler of its length fits none.
-fn put_string(rows: &mut [u8], i: usize, n: usize)
-    requires { StringPutting rows.old i n }
+fn put_string(rows: &mut [u8; ROWS_SIZE], i: usize, n: usize)
+    requires { StringPutting i n }
     ensures { StringPut rows.old rows.new i n }
 {
     if LONGEST < n {
-        put_row(rows, i, RowKind::Fixed, n, 0);
+        put_row(rows, i, scan::Element::Fixed(n));
         return;
     }
     let at = LONGEST * i;
-    put_row(rows, i, RowKind::String, at, at + n);
+    put_row(rows, i, scan::Element::Part(at, at + n));
 }
 
 // Row i is the value of an element of a string expression.
@@ -40,12 +41,12 @@ fn put_value(
     memory: Memory,
     x: Element,
     i: usize,
-    values: &mut [u8],
-    rows: &mut [u8],
+    values: &mut [u8; VALUES_SIZE],
+    rows: &mut [u8; ROWS_SIZE],
 ) -> Result<u32, Stop>
-    requires { ValuePutting table.now x i values.old rows.old }
-    ensures { ValuePut result values.old values.new rows.old rows.new i
-        (element_in current (memory_in memory.entry.store.now memory.entry.state.now) (element_meaning table.now x)) }
+    requires { ValuePutting table.now x i }
+    ensures { ValueBy result values.old values.new rows.old rows.new i
+        (element_in current (memory_meaning memory.entry) (element_meaning table.now x)) }
 {
     let at = LONGEST * i;
     let text = evaluator::append_element(table, memory, x, &mut values[at..at + LONGEST], 0)?;
@@ -54,17 +55,23 @@ fn put_value(
 }
 
 // Row i is a fixed filler of length z, or a null string that names nothing if z is negative. Gives the notes.
-fn put_fixed(z: Int, s: usize, i: usize, rows: &mut [u8], names: &mut [u8]) -> u32
-    requires { FixedPutting z s i rows.old names.old }
-    ensures { FixedPut z s i rows.old rows.new names.old names.new result }
+fn put_fixed(
+    z: Int,
+    place: usize,
+    i: usize,
+    rows: &mut [u8; ROWS_SIZE],
+    names: &mut [u8; ROW],
+) -> u32
+    requires { FixedPutting z place i }
+    ensures { FixedPut z place i rows.old rows.new names.old names.new result }
 {
-    if numbers::is_negative(z) {
+    let Some(length) = numbers::natural(z) else {
         names[i] = NONE;
-        put_row(rows, i, RowKind::String, 0, 0);
+        put_row(rows, i, scan::Element::Part(0, 0));
         return 1;
-    }
-    names[i] = s as u8;
-    put_row(rows, i, RowKind::Fixed, numbers::size(z) as usize, 0);
+    };
+    names[i] = place as u8;
+    put_row(rows, i, scan::Element::Fixed(length));
     0
 }
 
@@ -74,27 +81,27 @@ fn put_element(
     memory: Memory,
     x: PatternElement,
     i: usize,
-    values: &mut [u8],
-    rows: &mut [u8],
-    names: &mut [u8],
+    values: &mut [u8; VALUES_SIZE],
+    rows: &mut [u8; ROWS_SIZE],
+    names: &mut [u8; ROW],
 ) -> Result<u32, Stop>
-    requires { ElementPutting table.now x i values.old rows.old names.old }
+    requires { ElementPutting table.now x i }
     ensures { ElementPut result values.old values.new rows.old rows.new names.old names.new i
-        (valued_in current (memory_in memory.entry.store.now memory.entry.state.now) (pattern_meaning table.now x)) }
+        (valued_in current (memory_meaning memory.entry) (pattern_meaning table.now x)) }
 {
     match x {
         PatternElement::Value(e) => {
             names[i] = NONE;
             put_value(table, memory, e, i, values, rows)
         }
-        PatternElement::Free(s) => {
-            names[i] = s as u8;
-            put_row(rows, i, RowKind::Free, 0, 0);
+        PatternElement::Free(place) => {
+            names[i] = place as u8;
+            put_row(rows, i, scan::Element::Free);
             Ok(0)
         }
-        PatternElement::Fixed(s, n) => {
+        PatternElement::Fixed(place, n) => {
             let z = evaluator::length_value(memory.state, n);
-            Ok(put_fixed(z, s, i, rows, names))
+            Ok(put_fixed(z, place, i, rows, names))
         }
     }
 }
@@ -105,13 +112,13 @@ pub fn pattern_rows(
     table: &[u8],
     memory: Memory,
     pattern: Stretch,
-    values: &mut [u8],
-    rows: &mut [u8],
-    names: &mut [u8],
+    values: &mut [u8; VALUES_SIZE],
+    rows: &mut [u8; ROWS_SIZE],
+    names: &mut [u8; ROW],
 ) -> Result<u32, Stop>
-    requires { PatternPutting table.now pattern values.old rows.old names.old }
-    ensures { PatternPut result table.now values.new rows.new names.new pattern
-        (pattern_in current (memory_in memory.entry.store.now memory.entry.state.now) (patterns_meaning table.now pattern)) }
+    requires { PatternPutting table.now pattern }
+    ensures { AllBy result table.now values.new rows.new names.new pattern
+        (pattern_in current (memory_meaning memory.entry) (patterns_meaning table.now pattern)) }
 {
     let from = pattern.from;
     let mut notes: u32 = 0;

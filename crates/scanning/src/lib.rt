@@ -18,6 +18,7 @@ pub enum RowKind {
 
 impl RowKind {
     // the number that a row has for its kind
+    // kept: a method, as a stop's number is in crate values
     pub fn number(self) -> u8
         ensures { result ≡ row_kind_number self }
     {
@@ -25,6 +26,7 @@ impl RowKind {
     }
 
     // the kind that a row's number says, if one is known by it
+    // kept: by hand and an Option: the numbers are a row's bytes, by the C interface, and TryFrom's error would say no more than None
     pub fn of(number: u8) -> Option<RowKind>
         ensures { result ≡ row_kind_of number }
     {
@@ -55,7 +57,7 @@ impl Refusal {
 }
 
 // an answer's numbers, and where it has whether there is a split, the start, the trials, the notes and the lengths
-// kept: wherever an answer is lent it is an array of so many numbers, the caller's, by the C interface
+// kept: an array, not a struct: by the C interface an answer is so many numbers; interpreter's run makes its own so, for those that C's is lent to
 pub const ANSWER_SIZE: usize = 24;
 
 pub const FOUND_AT: usize = 0;

@@ -15,7 +15,7 @@ use Rattle.base.specs.Choice.{both_pass, neither_true}
 use Rattle.base.specs.Lists.{begins}
 use Rattle.std.specs.List.{fold, zip}
 use Rattle.base.specs.ListLaws.{begins_iff, length_stretch, get_or_stretch, stretch_end}
-use Rattle.search.specs.Passing.{AgreesUntil, Both, Without, NextPlace, NextByte, WordPasses}
+use Rattle.search.specs.Passing.{AgreesUntil, Both, Without, NextByte, WordPasses}
 
 -- a test that can't hold fails
 fails : (b : Bool) → (b ≡ true → ⊥) → b ≡ false
@@ -63,29 +63,29 @@ agrees-begins rest word n room a =
     (below_or_not n (length word))
 
 -- a fold that found nothing in two blocks of one length: at no place both bytes stand
-pub hit_none : (fronts backs : List ℕ) (first last : ℕ) (found : Bool) → length fronts ≡ length backs
-    → fold (λ t (p : ℕ × ℕ). t || (eqb p.0 first && eqb p.1 last)) found (zip fronts backs) ≡ false
-    → (found ≡ false) × ((j : ℕ) → j < length fronts → Both fronts backs first last j → ⊥)
-hit_none [] backs first last found size e = (e, λ j h. absurd (omega arith))
-hit_none (x ∷ fronts) [] first last found size e = absurd (omega arith)
-hit_none (x ∷ fronts) (y ∷ backs) first last found size e =
-    let rest = hit_none fronts backs first last (found || (eqb x first && eqb y last)) (omega arith) e in
-    let parts = neither_true found (eqb x first && eqb y last) rest.0 in
+pub hit_none : (fronts backs : List ℕ) (first second : ℕ) (found : Bool) → length fronts ≡ length backs
+    → fold (λ t (p : ℕ × ℕ). t || (eqb p.0 first && eqb p.1 second)) found (zip fronts backs) ≡ false
+    → (found ≡ false) × ((j : ℕ) → j < length fronts → Both fronts backs first second j → ⊥)
+hit_none [] backs first second found size e = (e, λ j h. absurd (omega arith))
+hit_none (x ∷ fronts) [] first second found size e = absurd (omega arith)
+hit_none (x ∷ fronts) (y ∷ backs) first second found size e =
+    let rest = hit_none fronts backs first second (found || (eqb x first && eqb y second)) (omega arith) e in
+    let parts = neither_true found (eqb x first && eqb y second) rest.0 in
     (parts.0, others parts.1 rest.1)
   where
-    others : (eqb x first && eqb y last) ≡ false → ((j : ℕ) → j < length fronts → Both fronts backs first last j → ⊥)
-        → (j : ℕ) → j < suc (length fronts) → Both (x ∷ fronts) (y ∷ backs) first last j → ⊥
-    others none more zero h b = true≢false (sym (both_pass (eq-eqb x first b.0) (eq-eqb y last b.1)) ∙ none)
+    others : (eqb x first && eqb y second) ≡ false → ((j : ℕ) → j < length fronts → Both fronts backs first second j → ⊥)
+        → (j : ℕ) → j < suc (length fronts) → Both (x ∷ fronts) (y ∷ backs) first second j → ⊥
+    others none more zero h b = true≢false (sym (both_pass (eq-eqb x first b.0) (eq-eqb y second b.1)) ∙ none)
     others none more (suc j) h b = more j (omega arith) b
 
-module _ {text : List ℕ} {first last span places from : ℕ} where
+module _ {text : List ℕ} {first second span places from : ℕ} where
   -- no place passed yet
-  pub without_none : from ≤ places → Without text first last span places from from
+  pub without_none : from ≤ places → Without text first second span places from from
   without_none h = record { low = omega arith; high = h; differ = λ j low high. absurd (omega arith) }
 
-  module _ {k : ℕ} (w : Without text first last span places from k) where
+  module _ {k : ℕ} (w : Without text first second span places from k) where
     -- the places from k to k' as well
-    pub without_join : {k' : ℕ} → Without text first last span places k k' → Without text first last span places from k'
+    pub without_join : {k' : ℕ} → Without text first second span places k k' → Without text first second span places from k'
     without_join w' =
         record {
           low = omega (arith, w.low, w'.low);
@@ -95,12 +95,12 @@ module _ {text : List ℕ} {first last span places from : ℕ} where
 
     -- a block more, of two parts of the text where nothing was found
     pub without_block : (size m n : ℕ) → m ≡ size → n ≡ size → k + size ≤ places
-        → ((j : ℕ) → j < size → Both (take m (drop k text)) (take n (drop (k + span) text)) first last j → ⊥)
-        → Without text first last span places from (k + size)
+        → ((j : ℕ) → j < size → Both (take m (drop k text)) (take n (drop (k + span) text)) first second j → ⊥)
+        → Without text first second span places from (k + size)
     without_block size m n em en room h =
         without_join (record { low = omega arith; high = room; differ = behind })
       where
-        behind : (j : ℕ) → k ≤ j → j < k + size → get_or text j 0 ≡ first → get_or text (j + span) 0 ≡ last → ⊥
+        behind : (j : ℕ) → k ≤ j → j < k + size → get_or text j 0 ≡ first → get_or text (j + span) 0 ≡ second → ⊥
         behind j low high f l =
             let i : ℕ = j - k in
             let e : k + i ≡ j = omega arith in
@@ -109,11 +109,6 @@ module _ {text : List ℕ} {first last span places from : ℕ} where
               get_or_stretch text k m i (omega arith) ∙ ap (λ (n : ℕ). get_or text n 0) e ∙ f,
               get_or_stretch text (k + span) n i (omega arith) ∙ ap (λ (n : ℕ). get_or text n 0) e' ∙ l,
             )
-
--- the next place behind some that were passed
-pub next-behind : {text : List ℕ} {first last span places from b k : ℕ} → Without text first last span places from b
-    → NextPlace text first last span places b k → NextPlace text first last span places from k
-next-behind w n = record { passed = without_join w n.passed; here = n.here }
 
 -- a byte looked for from a place on
 module _ (text : List ℕ) (byte from m : ℕ) (whole : from + m ≡ length text) where

@@ -36,33 +36,34 @@ pub fn begins_with(rest: &[u8], word: &[u8]) -> bool
     same_until(rest, word) == word.len()
 }
 
-// Whether at one of the places of two blocks the byte of fronts is first and that of backs is last. It leaves no turn out, so that it becomes
+// Whether at one of the places of two blocks the byte of fronts is first and that of backs is second. It leaves no turn out, so that it becomes
 // vector code.
-fn hit(fronts: &[u8], backs: &[u8], first: u8, last: u8) -> bool
+fn hit(fronts: &[u8], backs: &[u8], first: u8, second: u8) -> bool
     requires { length fronts.now ≡ length backs.now }
-    ensures { result ≡ false → (j : ℕ) → j < length fronts.now → Both fronts.now backs.now first last j → ⊥ }
+    ensures { result ≡ false → (j : ℕ) → j < length fronts.now → Both fronts.now backs.now first second j → ⊥ }
 {
     fronts
         .iter()
         .zip(backs)
         .fold(false, |found, (front, back)| {
-            found | ((*front == first) & (*back == last))
+            found | ((*front == first) & (*back == second))
         })
 }
 
-// the places from one on, in blocks of this size, at which not both first stands and last stands span bytes behind it
-// kept: a while, since it ends at the block that hits: chunks of both spans zipped would have to be counted back to that place
-// kept: the six parameters come apart: last, span and from are others at each turn of passed_word, so a struct would be made anew each time
+// the places from one on, in blocks of this size, at which not both first stands and second stands span bytes behind it
+// kept: a while: by step_by and find the closure would also test that a block fits, and none left would be a third end; chunks of both spans zipped
+// would have to be counted back to the place
+// kept: the parameters come apart: a struct of text, first and places spares no clause, which is of span and from, others at each turn of passed_word
 fn pass_blocks<const SIZE: usize>(
     text: &[u8],
     first: u8,
-    last: u8,
+    second: u8,
     span: usize,
     places: usize,
     from: usize,
 ) -> usize
     requires { PlacesSearchable text.now span places from × (0 < SIZE) }
-    ensures { Without text.now first last span places from result }
+    ensures { Without text.now first second span places from result }
 {
     let mut k = from;
     while SIZE <= places - k {
@@ -71,7 +72,7 @@ fn pass_blocks<const SIZE: usize>(
             &text[k..k + SIZE],
             &text[behind..behind + SIZE],
             first,
-            last,
+            second,
         ) {
             return k;
         }
@@ -80,26 +81,37 @@ fn pass_blocks<const SIZE: usize>(
     k
 }
 
-// the same one place at a time, up to one where both stand
-fn pass_bytes(text: &[u8], first: u8, last: u8, span: usize, places: usize, from: usize) -> usize
+// the next place from one on at which both stand, one place at a time
+fn pass_bytes(
+    text: &[u8],
+    first: u8,
+    second: u8,
+    span: usize,
+    places: usize,
+    from: usize,
+) -> Option<usize>
     requires { PlacesSearchable text.now span places from }
-    ensures { NextPlace text.now first last span places from result }
+    ensures { NextPlace text.now first second span places from result }
 {
-    (from..places)
-        .find(|k| text[*k] == first && text[*k + span] == last)
-        .unwrap_or(places)
+    (from..places).find(|k| text[*k] == first && text[*k + span] == second)
 }
 
-// The next place from one on at which first stands and last stands span bytes behind it, or the end of the places: by blocks as long as they may
-// be, then by shorter ones.
-fn next_place(text: &[u8], first: u8, last: u8, span: usize, places: usize, from: usize) -> usize
+// The next place from one on at which first stands and second stands span bytes behind it: by blocks as long as they may be, then by shorter ones.
+fn next_place(
+    text: &[u8],
+    first: u8,
+    second: u8,
+    span: usize,
+    places: usize,
+    from: usize,
+) -> Option<usize>
     requires { PlacesSearchable text.now span places from }
-    ensures { NextPlace text.now first last span places from result }
+    ensures { NextPlace text.now first second span places from result }
 {
-    let a = pass_blocks::<128>(text, first, last, span, places, from);
-    let b = pass_blocks::<32>(text, first, last, span, places, a);
-    let e = pass_blocks::<8>(text, first, last, span, places, b);
-    pass_bytes(text, first, last, span, places, e)
+    let a = pass_blocks::<128>(text, first, second, span, places, from);
+    let b = pass_blocks::<32>(text, first, second, span, places, a);
+    let e = pass_blocks::<8>(text, first, second, span, places, b);
+    pass_bytes(text, first, second, span, places, e)
 }
 
 // Where a byte stands first. Where few bytes are left they are looked at one by one.
@@ -114,6 +126,7 @@ fn find_byte(rest: &[u8], byte: u8) -> Option<usize>
 }
 
 // where this byte stands next from a place on, or where the text ends
+// kept: a place of the text, not of its rest, for card_reader and register_report (store and string_parser subtract); no Option: what is told ends there
 pub fn next_byte(text: &[u8], byte: u8, from: usize) -> usize
     requires { from ≤ length text.now }
     ensures { NextByte text.now byte from result }
@@ -135,20 +148,15 @@ fn passed_word(text: &[u8], word: &[u8]) -> usize
     let first = word[0];
     let mut span = word.len() - 1;
     let mut k: usize = 0;
-    while k < places {
-        let last = word[span];
-        k = next_place(text, first, last, span, places, k);
-        if k == places {
-            return k;
-        }
-        let m = same_until(&text[k..], word);
+    while let Some(place) = next_place(text, first, word[span], span, places, k) {
+        let m = same_until(&text[place..], word);
         if m == word.len() {
-            return k;
+            return place;
         }
         span = m;
-        k += 1;
+        k = place + 1;
     }
-    k
+    places
 }
 
 // places of text from the first on at which word does not stand, though enough bytes do

@@ -3,7 +3,7 @@
 // kept: the state is the caller's array, by the C interface; so these are functions on it and not methods of a struct
 #![tactic(auto)]
 
-ghost use Rattle.std.specs.Prelude.{◌≡◌, ◌+◌, ◌-◌, ◌<◌, ◌≤◌, eqb, ltb, get_or, set};
+ghost use Rattle.std.specs.Prelude.{◌≡◌, ◌+◌, ◌-◌, ◌^◌, ◌<◌, ◌≤◌, eqb, ltb, get_or, set};
 ghost use Rattle.base.specs.Current.{current};
 ghost use Rattle.base.specs.Lists.{all};
 ghost use Rattle.encoding.specs.Buffers.{status_of, first_state, returns_in, numbers_in, state_keeps};
@@ -18,7 +18,7 @@ use encoding::{
     BIAS, FINISHED, HELD_AT, NEXT_AT, NUMBERS_AT, READ_AT, RETURNS_AT, RUNNING, STATE_SIZE,
     STATUS_AT, STOPPED, WRITTEN_AT,
 };
-use numbers::Int;
+use numbers::{Int, LIMIT};
 
 // where the numbers end; what stands behind them doesn't count
 const BEHIND: usize = NUMBERS_AT + base::NUMBERS;
@@ -37,7 +37,7 @@ fn returns_keep(state: &[u64; STATE_SIZE], steps: usize) -> bool
 fn keeps_number(n: u64) -> bool
     ensures { result ≡ is_in_range current (unbiased n) }
 {
-    BIAS - numbers::LIMIT <= n && n <= BIAS + numbers::LIMIT
+    (BIAS - LIMIT..=BIAS + LIMIT).contains(&n)
 }
 
 // Whether the numbers are in range.
@@ -116,7 +116,15 @@ pub fn set_number(state: &mut [u64; STATE_SIZE], place: usize, z: Int)
     requires int_in_range { IntInRange z }
     ensures { state.new ≡ set state.old (21 + place) (biased z.value) }
 {
-    state[NUMBERS_AT + place] = (z.value + (BIAS as i64)) as u64;
+    state[NUMBERS_AT + place] = numbers::biased(z);
+}
+
+// The number with this place.
+pub fn number(state: &[u64; STATE_SIZE], place: usize) -> Int
+    requires { (place < 32) × (get_or state.now (21 + place) 0 < 2 ^ 48) }
+    ensures { result.value ≡ unbiased (get_or state.now (21 + place) 0) }
+{
+    numbers::unbiased(state[NUMBERS_AT + place])
 }
 
 // Holds a return to a step.
@@ -150,6 +158,7 @@ pub fn start(state: &mut [u64; STATE_SIZE])
 }
 
 // The starting call: the state before the first step, and the store zeroed; 14 if the store is too small, which then stays.
+// kept: 14 is bare: it is the one number that this call turns down by, by document 01; where a step has it, it is interpreter's BadStore
 pub fn strigol_start(store: &mut [u8], state: &mut [u64; STATE_SIZE]) -> u32
     ensures { StartPromise store.old (start_back result store.new state.new) }
 {

@@ -1,2 +1,2 @@
--- What the code's tests of tags and purposes tell (Told).
+-- What the code's tests of kinds, tags and purposes tell (Told).
 pub mod Told

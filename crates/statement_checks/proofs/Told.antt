@@ -1,10 +1,15 @@
--- The code's tests of tags and purposes, and what they tell of names. Assumes nothing.
+-- The code's tests of kinds, tags and purposes, and what they tell. Assumes nothing.
 use Rattle.std.specs.Prelude.{true, false, cond, List, [], ◌∷◌, map, ◌≡◌, refl, ℕ, get_or}
 use Rattle.std.proofs.Common.{ap, ◌∙◌}
 use denote.Enum.Bare.{sameb}
 use Rattle.base.specs.Choice.{test_cases}
 use Rattle.base.specs.Lists.{keep}
 use Rattle.validation.specs.Environment.{names_for}
+use Rattle.lexer.specs.Kinds.{kind_of}
+use Rattle.lexer.specs.contracts.keywords.Kind as Stated
+use Rattle.lexer.specs.declared.keywords.Kind.{Kind}
+use Rattle.lexer.specs.declared.keywords.Kind.TheVariants.{End, Program as ProgramKind}
+use Rattle.syntax.specs.Keywords.{statement_kind_number, same_kind, PROGRAM}
 use Rattle.syntax.specs.Parsing.{purpose_number, same_purpose, Mention}
 use Rattle.symbols.specs.Entries.{entry, name_of, purpose_meaning, tag_purpose, tag_declares, declares_name, mention_of, gather, declared_by}
 use Rattle.symbols.specs.Environment.{label_meaning}
@@ -16,7 +21,7 @@ use Rattle.symbols.specs.declared.tags.Purpose.{Purpose}
 use Rattle.symbols.specs.declared.tags.Purpose.TheVariants.{Program, Label, Routine, Number, String}
 use Rattle.symbols.specs.declared.tags.Tag.{Tag}
 use Rattle.symbols.specs.declared.tags.Tag.TheVariants.{LabelDeclared, RoutineDeclared}
-use Rattle.statement_checks.specs.LabelLaws.{labels_none, labels_more, labels_same}
+use Rattle.statement_checks.specs.Counts.{ended_behind}
 use Rattle.statement_checks.specs.Labels.{labels_by}
 use Rattle.statement_checks.specs.ListingLaws.{shows_more, shows_same}
 use Rattle.statement_checks.specs.Routines.{declares_routine}
@@ -72,7 +77,16 @@ module _ (keys : List ℕ) (purposes : List Purpose) (i : ℕ) (p : Purpose) whe
   pub name_other : sameb Kept.the_type (get_or purposes i Program) p ≡ false → names_for (purpose_meaning p) (mention_in keys purposes i ∷ []) ≡ []
   name_other e = name_told ∙ ap (λ t. cond t one []) e
 
--- what the loops over labels and names cite
-pub ruleset labels_told = (labels_none, labels_more, labels_same, label_here, label_other)
+-- a kind is END, or PROGRAM
+pub end_told : (k : Kind) → sameb Stated.the_type k End ≡ ended_behind k
+unfolding ended_behind
+end_told End = refl
+end_told _ = refl
 
+pub program_told : (k : Kind) → sameb Stated.the_type k ProgramKind ≡ same_kind (kind_of k) PROGRAM
+unfolding same_kind statement_kind_number
+program_told ProgramKind = refl
+program_told _ = refl
+
+-- what the loop over names cites
 pub ruleset names_told = (shows_more, shows_same, name_here, name_other)

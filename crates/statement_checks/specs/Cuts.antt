@@ -1,5 +1,5 @@
 -- Lists that are cut at a size. Assumes nothing.
-use Rattle.std.specs.Prelude.{◌≡◌, refl, ℕ, zero, suc, ◌≤◌, ◌<◌, ltb}
+use Rattle.std.specs.Prelude.{◌≡◌, refl, ℕ, zero, suc, ◌<◌, ltb}
 use mathlib.Core.List.{List, [], ◌∷◌, ◌++◌, map, map-append}
 use Rattle.std.proofs.Math.Path.{ap}
 use Rattle.std.proofs.Math.ListN.{length, take}
@@ -23,10 +23,7 @@ cut_next cap f xs xs' all x before is =
     ∙ ap (take cap) (map-append f xs (x ∷ []) ∙ ap (λ l. l ++ (f x ∷ [])) before)
     ∙ cut_again cap all (f x ∷ [])
 
--- a list that is cut has no more than the size; one that is not full is whole
-pub cut_few : {A : Type 0} (cap : ℕ) (l : List A) → length (take cap l) ≤ cap
-cut_few cap l = omega (arith, length-take cap l)
-
+-- a list that is cut and not full is whole
 pub cut_whole : {A : Type 0} (cap : ℕ) (l : List A) → length (take cap l) < cap → take cap l ≡ l
 cut_whole cap l h = take_all cap l (omega (arith, length-take cap l))
 

@@ -5,7 +5,7 @@ use Rattle.lexer.specs.declared.keywords.Kind.{Kind}
 use Rattle.lexer.specs.declared.keywords.Kind.TheVariants.{End, Routine, EndRoutine, Return}
 use Rattle.symbols.specs.Clauses.{names_room}
 use Rattle.symbols.specs.Entries.{NameEntry, name_of}
-use Rattle.symbols.specs.Environment.{string_keys, number_keys, labels_in, routines_in, most_labels}
+use Rattle.symbols.specs.Environment.{string_keys, number_keys, labels_in, routines_in, most, most_labels}
 use Rattle.symbols.specs.declared.Cursor.{Cursor}
 use Rattle.symbols.specs.declared.known.Symbols.{Symbols}
 use Rattle.statement_checks.specs.Counts.{steps_behind, ended_behind}
@@ -24,8 +24,8 @@ wrong_in _ scope = false
 
 -- the table is ready to be extended by a statement: the names are there already, behind the first so many that were known before
 pub record Extendable (s : Symbols) (met before : ℕ) : Type 0 where
-  pub strings : Listing s.names before for_string (string_keys s.known)
-  pub numbers : Listing s.names before for_number (number_keys s.known)
+  pub strings : Listing most s.names before for_string (string_keys s.known)
+  pub numbers : Listing most s.names before for_number (number_keys s.known)
   pub spacious : s.uses.count + met ≤ names_room
   pub statements : s.known.statements ≤ 256
   pub steps : s.known.steps ≤ 256
@@ -37,8 +37,8 @@ pub record Extended (s : Symbols) (es : List NameEntry) (c : Cursor) (kind : Kin
   pub opened : Option ℕ
   pub opens : Opens (routine_names es) opened
   pub names : s'.names ≡ s.names
-  pub strings : ShowsNames s.names s.names.count for_string (string_keys s'.known)
-  pub numbers : ShowsNames s.names s.names.count for_number (number_keys s'.known)
+  pub strings : ShowsNames most s.names s.names.count for_string (string_keys s'.known)
+  pub numbers : ShowsNames most s.names s.names.count for_number (number_keys s'.known)
   pub labels : labels_in s'.known ≡ take most_labels (labels_in s.known ++ labels_by s.known.steps (name_of s.known.scope) es)
   pub routines : routines_in s'.known ≡ routines_behind s.known.steps (routines_in s.known) opened kind
   pub statements : s'.known.statements ≡ s.known.statements + 1

@@ -12,7 +12,7 @@ use Rattle.symbols.specs.declared.Cursor.{Cursor}
 use Rattle.symbols.specs.declared.Mentioned.{Mentioned}
 use Rattle.symbols.specs.declared.known.Known.{Known}
 use Rattle.symbols.specs.declared.known.Symbols.{Symbols}
-use Rattle.name_checks.specs.Arrays.{environment_in, entries_from}
+use Rattle.name_checks.specs.Shown.{environment_in, entries_from}
 use Rattle.lexer.specs.Kinds.{kind_of}
 use Rattle.lexer.specs.declared.keywords.Kind.{Kind}
 

@@ -56,7 +56,7 @@ use Rattle.symbols.specs.declared.Mentioned.{Mentioned}
 use Rattle.symbols.specs.declared.known.Known.{Known}
 use Rattle.symbols.specs.declared.known.Names.{Names}
 use Rattle.symbols.specs.declared.known.Symbols.{Symbols}
-use Rattle.name_checks.specs.Arrays.{entry_in, entries_from}
+use Rattle.name_checks.specs.Shown.{entry_at, entries_from}
 use Rattle.name_checks.specs.Declaring.{declared_in, undeclared_in}
 use Rattle.name_checks.specs.Judged.{names_of, names_number, NamesJudged}
 use Rattle.statement_checks.specs.Counts.{steps_behind, ended_behind, is_over}
@@ -206,7 +206,7 @@ with_names_of s names = record { known = s.known; names = names; uses = s.uses }
 -- behind a statement by which the environment is extended
 module _ (s : Symbols) (taken : ℕ) (k : Environment) (h : SymbolsHold s taken k) (kind : Kind) (m : Mentioned) (c : Cursor)
     (items : ℕ) (rows : List ℕ) (literals : ℕ) (counts : Tallied k c items rows literals) (names' : Names)
-    (names : NamesJudged s.known s.names m c.names names' (Ok tt))
+    (names : NamesJudged s.known s.names (entries_from m 0 c.names) names' (Ok tt))
     (s' : Symbols) (l : Extended (with_names_of s names') (entries_from m 0 c.names) c kind s') where
   abbrev known' : Known
   known' = s'.known
@@ -321,12 +321,13 @@ module _ (s : Symbols) (taken : ℕ) (k : Environment) (h : SymbolsHold s taken 
       let p₆ = neither_true (ltb Limits.row_elements c.longest) _ p₅.1 in
       let p₇ = neither_true (ltb Limits.elements known'.elements) _ p₆.1 in
       let p₈ = neither_true (ltb Limits.items known'.items) _ p₇.1 in
+      let entry_size = length_from (entry_at m.keys m.tags) 0 c.names in
       let strings = ltb-false Limits.strings (length (string_keys known')) p₂.0 in
       let numbers = ltb-false Limits.numbers (length (number_keys known')) p₃.0 in
       let labels = ltb-false Limits.labels (length known'.labels.items) p₄.0 in
       record {
-        few_names = omega (arith, ap (λ (n : Names). n.count) l.names, names.few, h.few_names);
-        few_uses = omega (arith, l.used.few, h.few_uses, length_from (entry_in m) 0 c.names);
+        few_names = omega (arith, ap (λ (n : Names). n.count) l.names, names.few, h.few_names, entry_size);
+        few_uses = omega (arith, l.used.few, h.few_uses, entry_size);
         few_statements = ltb-false Limits.statements known'.statements p₁.0;
         few_steps = omega (arith, l.steps, l.statements, steps_few s.known.steps kind, h.few_steps);
         few_strings = strings;

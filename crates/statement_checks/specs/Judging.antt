@@ -8,22 +8,22 @@ use Rattle.validation.specs.Environment.{Environment, names_for}
 use Rattle.validation.specs.Refusals.{mentions_number}
 use Rattle.validation.specs.RefusalNumbers.{refusal_number, refusal_number_some}
 use Rattle.validation.specs.declared.Refusal.{Refusal}
-use Rattle.syntax.specs.Keywords.{statement_kind_number, same_kind, PROGRAM}
+use Rattle.syntax.specs.Keywords.{same_kind, PROGRAM}
 use Rattle.syntax.specs.Parsing.{Purpose, for_number, for_string}
 use Rattle.symbols.specs.Entries.{NameEntry, name_of, mentions_in}
 use Rattle.symbols.specs.Environment.{most, string_keys, number_keys}
+use Rattle.symbols.specs.From.{length_from}
 use Rattle.symbols.specs.Holding.{SymbolsHold, names_in}
 use Rattle.symbols.specs.declared.Cursor.{Cursor}
 use Rattle.symbols.specs.declared.Mentioned.{Mentioned}
 use Rattle.symbols.specs.declared.known.Known.{Known}
 use Rattle.symbols.specs.declared.known.Names.{Names}
 use Rattle.symbols.specs.declared.known.Symbols.{Symbols}
-use Rattle.name_checks.specs.ArrayLaws.{names_kept}
-use Rattle.name_checks.specs.Arrays.{environment_in, entries_from}
+use Rattle.name_checks.specs.ShownLaws.{names_kept}
+use Rattle.name_checks.specs.Shown.{environment_in, entry_at, entries_from}
 use Rattle.name_checks.specs.Judged.{NamesReady, NamesJudged}
 use Rattle.lexer.specs.Kinds.{kind_of}
 use Rattle.lexer.specs.declared.keywords.Kind.{Kind}
-use Rattle.lexer.specs.declared.keywords.Kind.TheVariants.{Program}
 use Rattle.statement_checks.specs.Counts.{is_over}
 use Rattle.statement_checks.specs.Extending.{wrong_in, Extendable, Extended}
 use Rattle.statement_checks.specs.Judged.{Judgeable, Tallied, StatementJudged, Misplaced}
@@ -31,15 +31,6 @@ use Rattle.statement_checks.specs.JudgedLaws.{misplaced, number_some, number_nin
 use Rattle.statement_checks.specs.Listing.{Listing}
 
 -- 4, by whether the kind is PROGRAM
-pub program_told : (kind : Kind) → kind ≡ Program → true ≡ same_kind (kind_of kind) PROGRAM
-unfolding same_kind statement_kind_number
-program_told kind e = rw e
-
-pub program_other : (kind : Kind) → (kind ≡ Program → ⊥) → false ≡ same_kind (kind_of kind) PROGRAM
-unfolding same_kind statement_kind_number
-program_other Program f = absurd (f refl)
-program_other _ f = refl
-
 pub misplaced_by : (known : Known) (kind : Kind) (r : Bool)
     → r ≡ (not (beq (eqb known.statements 0) (same_kind (kind_of kind) PROGRAM)) || known.ended) → Misplaced known kind r
 misplaced_by known kind r e =
@@ -51,12 +42,13 @@ misplaced_by known kind r e =
     }
 
 -- a table that is ready has names to judge
-pub names_ready : (s : Symbols) (c : Cursor) → Judgeable s c → NamesReady s.names c.names
+pub names_ready : (s : Symbols) (m : Mentioned) (c : Cursor) → Judgeable s c → NamesReady s.names (entries_from m 0 c.names)
 unfolding environment_in
-names_ready s c r = record { room = omega (arith, r.held.few_names, r.room); single = r.held.single }
+names_ready s m c r =
+    record { room = omega (arith, r.held.few_names, r.room, length_from (entry_at m.keys m.tags) 0 c.names); single = r.held.single }
 
 -- the names are refused
-pub judged_names : (s : Symbols) (m : Mentioned) (c : Cursor) (names' : Names) {e : Refusal} → NamesJudged s.known s.names m c.names names' (Err e)
+pub judged_names : (s : Symbols) (m : Mentioned) (c : Cursor) (names' : Names) {e : Refusal} → NamesJudged s.known s.names (entries_from m 0 c.names) names' (Err e)
     → (kind : Kind) (s' : Symbols) → StatementJudged s m c kind s' (refusal_number e)
 judged_names s m c names' {e} names kind s' =
     record {
@@ -66,10 +58,10 @@ judged_names s m c names' {e} names kind s' =
     }
 
 module _ (s : Symbols) (m : Mentioned) (c : Cursor) (ready : Judgeable s c) (names' : Names)
-    (names : NamesJudged s.known s.names m c.names names' (Ok tt)) where
+    (names : NamesJudged s.known s.names (entries_from m 0 c.names) names' (Ok tt)) where
   -- n names of a purpose, by their keys
   listed : (p : Purpose) (keys : List ℕ) → length keys ≤ most → map name_of keys ≡ names_for p (names_in s.names)
-      → Listing names' s.names.count p keys
+      → Listing most names' s.names.count p keys
   unfolding names_in
   listed p keys few held =
       let size = ap length (sym held) ∙ length-map keys name_of in
@@ -81,7 +73,7 @@ module _ (s : Symbols) (m : Mentioned) (c : Cursor) (ready : Judgeable s c) (nam
             (sym (names_kept s.names.keys s.names.purposes names'.keys names'.purposes 0 s.names.count (λ j g. names.keys_kept j (omega arith))
             (λ j g. names.purposes_kept j (omega arith))));
         inside = names.more;
-        room = omega (arith, names.few, ready.held.few_names, ready.room);
+        room = omega (arith, names.few, ready.held.few_names, ready.room, length_from (entry_at m.keys m.tags) 0 c.names);
       }
 
   -- and can be extended by the statement

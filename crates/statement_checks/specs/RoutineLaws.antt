@@ -5,9 +5,8 @@ use Rattle.std.proofs.Math.Path.{sym, ap}
 use Rattle.std.proofs.Common.{◌∙◌, arith}
 use Prim.Native.Nat.{ℕ, zero, suc, ◌+◌, ◌-◌, ◌≤◌, ◌<◌}
 use Rattle.std.proofs.Math.Dec.{ltb}
-use Rattle.std.proofs.Math.ListN.{length, set, take, get_or, get_or-eq_default}
+use Rattle.std.proofs.Math.ListN.{length, set, get_or, get_or-eq_default}
 use Rattle.std.proofs.lemmas.Grind.{common_steps}
-use Rattle.std.proofs.lemmas.List.{get_or-take}
 use Rattle.std.proofs.lemmas.List.Quantifiers.{position-Some}
 use Rattle.std.proofs.lemmas.List.Sums.{fails_before_first}
 use Rattle.std.specs.List.{position, position_or_len}
@@ -20,12 +19,11 @@ use Rattle.symbols.specs.Entries.{entry, name_of, purpose_meaning, tag_purpose, 
 use Rattle.symbols.specs.From.{from-turn, from_none}
 use Rattle.symbols.specs.Environment.{routine_meaning, latest_first}
 use Rattle.symbols.specs.EnvironmentLaws.{length-routines, latest_more}
-use Rattle.symbols.specs.declared.Mentioned.{Mentioned}
 use Rattle.symbols.specs.declared.known.Routine as Opened
 use Rattle.symbols.specs.declared.tags.Tag.{Tag}
 use Rattle.symbols.specs.declared.tags.Tag.TheVariants.{ProgramDeclared, RoutineDeclared}
-use Rattle.name_checks.specs.Arrays.{key_in, tag_in, entry_in, entries_from, entries_left}
-use Rattle.statement_checks.specs.Cuts.{cut_few}
+use Rattle.name_checks.specs.declared.entries.Entries.{Entries}
+use Rattle.name_checks.specs.Shown.{entry_count, key_in, tag_in, entry_in, entries_to, entries_in, entries_left}
 use Rattle.statement_checks.specs.NamesFor.{names_append}
 use Rattle.statement_checks.specs.Routines.{declares_routine, routine_names, Opens}
 
@@ -75,19 +73,19 @@ routine_told key RoutineDeclared = refl
 routine_told key _ = refl
 
 -- the first routine that entries declare: the entries before it declare none
-module _ (m : Mentioned) (met : ℕ) where
+module _ (m : Entries) where
   abbrev one : ℕ → List (List ℕ)
   one i = routine_names (entry_in m i ∷ [])
 
   abbrev left : ℕ → List (List ℕ)
-  left i = routine_names (entries_left m met i)
+  left i = routine_names (entries_left m i)
 
-  routine_turn : (i : ℕ) → i < met → left i ≡ one i ++ left (i + 1)
+  routine_turn : (i : ℕ) → i < entry_count m → left i ≡ one i ++ left (i + 1)
   unfolding routine_names gather
   routine_turn i h =
       let x = entry_in m i in
-      let behind = gather declared_by (entries_left m met (i + 1)) in
-      ap routine_names (from-turn (entry_in m) met i h)
+      let behind = gather declared_by (entries_left m (i + 1)) in
+      ap routine_names (from-turn (entry_in m) (entry_count m) i h)
       ∙ names_append for_routine (declared_by x) behind
       ∙ ap (λ l. names_for for_routine l ++ left (i + 1)) (sym (append-nil (declared_by x)))
 
@@ -95,7 +93,7 @@ module _ (m : Mentioned) (met : ℕ) where
   here : (i : ℕ) (t : Bool) → declares_routine (tag_in m i) ≡ t → one i ≡ cond t (name_of (key_in m i) ∷ []) []
   here i t e = routine_told (key_in m i) (tag_in m i) ∙ ap (λ b. cond b (name_of (key_in m i) ∷ []) []) e
 
-  routine_pass : (i : ℕ) → i ≤ met → ((k : ℕ) → k < i → declares_routine (tag_in m k) ≡ false) → left 0 ≡ left i
+  routine_pass : (i : ℕ) → i ≤ entry_count m → ((k : ℕ) → k < i → declares_routine (tag_in m k) ≡ false) → left 0 ≡ left i
   routine_pass zero h none = refl
   routine_pass (suc i) h none =
       let next : i + 1 ≡ suc i = omega arith in
@@ -104,44 +102,39 @@ module _ (m : Mentioned) (met : ℕ) where
       ∙ ap (λ l. l ++ left (i + 1)) (here i false (none i (omega arith)))
       ∙ ap left next
 
-  whole : routine_names (entries_from m 0 met) ≡ left 0
-  whole = let all : met ≡ met - 0 = omega arith in ap (λ n. routine_names (entries_from m 0 n)) all
+  whole : routine_names (entries_in m) ≡ left 0
+  whole = let all : entry_count m ≡ entry_count m - 0 = omega arith in ap (λ n. routine_names (entries_to m n)) all
 
-  -- a tag among the first so many
-  first_tag : (k : ℕ) → k < met → declares_routine (get_or (take met m.tags) k ProgramDeclared) ≡ declares_routine (tag_in m k)
-  first_tag k h = ap declares_routine (get_or-take met m.tags k ProgramDeclared h)
-
-  pub routine_first : (i : ℕ) → position declares_routine (take met m.tags) ≡ Some i
-      → Opens (routine_names (entries_from m 0 met)) (Some (key_in m i))
+  pub routine_first : (i : ℕ) → position declares_routine m.tags.now ≡ Some i → Opens (routine_names (entries_in m)) (Some (key_in m i))
   routine_first i is =
-      let at = position-Some declares_routine (take met m.tags) i ProgramDeclared is in
-      let inside : i < met = omega (arith, at.0, cut_few met m.tags) in
+      let at = position-Some declares_routine m.tags.now i ProgramDeclared is in
+      let inside : i < entry_count m = omega (arith, at.0, m.same) in
       record {
         others = left (i + 1);
         is =
             whole
-            ∙ routine_pass i (omega arith) (λ k h. sym (first_tag k (omega arith)) ∙ at.2 k h)
+            ∙ routine_pass i (omega arith) at.2
             ∙ routine_turn i inside
-            ∙ ap (λ l. l ++ left (i + 1)) (here i true (sym (first_tag i inside) ∙ at.1));
+            ∙ ap (λ l. l ++ left (i + 1)) (here i true at.1);
       }
 
-  -- where no tag among them declares a routine, those behind the last don't either
-  no_tag : position declares_routine (take met m.tags) ≡ None → (k : ℕ) → declares_routine (get_or (take met m.tags) k ProgramDeclared) ≡ false
+  -- where no tag declares a routine, no entry does
+  no_tag : position declares_routine m.tags.now ≡ None → (k : ℕ) → declares_routine (tag_in m k) ≡ false
   unfolding declares_routine
   no_tag is k =
-      let tags = take met m.tags in
+      let tags = m.tags.now in
       let none : length tags ≤ position_or_len declares_routine tags = grind (arith, common_steps) in
       test_cases (λ t. ltb k (length tags) ≡ t → declares_routine (get_or tags k ProgramDeclared) ≡ false) (ltb k (length tags))
       (λ _ e. let inside = ltb-true k (length tags) e in fails_before_first declares_routine tags k ProgramDeclared (omega arith))
       (λ _ e. ap declares_routine (get_or-eq_default tags ProgramDeclared (ltb-false k (length tags) e))) refl
 
-  pub routine_none : position declares_routine (take met m.tags) ≡ None → Opens (routine_names (entries_from m 0 met)) None
+  pub routine_none : position declares_routine m.tags.now ≡ None → Opens (routine_names (entries_in m)) None
   unfolding routine_names gather names_for keep
   routine_none is =
       record {
         others = [];
         is =
             whole
-            ∙ routine_pass met (omega arith) (λ k h. sym (first_tag k h) ∙ no_tag is k)
-            ∙ ap routine_names (from_none (entry_in m) met met (omega arith));
+            ∙ routine_pass (entry_count m) (omega arith) (λ k h. no_tag is k)
+            ∙ ap routine_names (from_none (entry_in m) (entry_count m) (entry_count m) (omega arith));
       }

@@ -21,15 +21,15 @@ fn steps_behind(steps: usize, kind: Kind) -> usize
 }
 
 // whether a statement of a kind is END
-#[tactic(auto, unfolding(crate::specs::Counts::ended_behind))]
+#[tactic(auto, using(crate::proofs::Told::end_told))]
 fn ended_behind(kind: Kind) -> bool
     ensures { result ≡ ended_behind kind }
 {
-    matches!(kind, Kind::End)
+    kind == Kind::End
 }
 
 // writes the counts behind a statement
-// kept: three counts copied one by one: a cursor's other fields aren't the table's, so neither struct can be given for the other
+// kept: three counts copied one by one: they are no struct, as symbols says of Cursor
 pub fn put_counts(known: &mut Known, c: Cursor, kind: Kind, scope: u64)
     requires { (known.old.statements ≤ 256) × (known.old.steps ≤ 256) }
     ensures { known.new ≡ counts_after known.old c kind scope }

@@ -4,14 +4,13 @@ ghost use Rattle.std.specs.Prelude.{◌≡◌, ◌≤◌};
 ghost use Rattle.std.specs.List.{position};
 ghost use Rattle.arrayvec.specs.ArrayVec.{array_vec_len};
 ghost use Rattle.validation.specs.Environment.{close_routine};
-ghost use Rattle.symbols.specs.Clauses.{names_room};
 ghost use Rattle.symbols.specs.Environment.{latest_first};
-ghost use Rattle.name_checks.specs.Arrays.{entries_from};
+ghost use Rattle.name_checks.specs.Shown.{entries_in};
 ghost use Rattle.statement_checks.specs.Routines.{declares_routine, routine_names, routines_behind, scope_behind, Opens};
 
 use arrayvec::ArrayVec;
 use lexer::keywords::Kind;
-use symbols::Mentioned;
+use name_checks::entries::Entries;
 use symbols::known::{LISTED_ROUTINES, Routine};
 use symbols::tags::Tag;
 
@@ -29,12 +28,11 @@ fn routine_place(tags: &[Tag]) -> Option<usize>
 
 // the key of the first routine that a statement declares, if any
 #[tactic(auto, using(crate::specs::RoutineLaws::routine_first, crate::specs::RoutineLaws::routine_none))]
-pub fn first_routine(mentioned: &Mentioned, met: usize) -> Option<u64>
-    requires { met ≤ names_room }
-    ensures { Opens (routine_names (entries_from mentioned.now 0 met)) result }
+pub fn first_routine(entries: Entries) -> Option<u64>
+    ensures { Opens (routine_names (entries_in entries.entry)) result }
 {
-    let i = routine_place(&mentioned.tags[..met])?;
-    Some(mentioned.keys[i])
+    let i = routine_place(entries.tags)?;
+    Some(entries.keys[i])
 }
 
 // closes the latest routine, if there is one

@@ -3,10 +3,10 @@
 ghost use Rattle.std.specs.Prelude.{[], ◌∷◌, ◌+◌, ◌≤◌, ◌<◌};
 ghost use Rattle.symbols.specs.Clauses.{names_room};
 ghost use Rattle.symbols.specs.Entries.{entry};
-ghost use Rattle.name_checks.specs.Arrays.{entries_from};
+ghost use Rattle.name_checks.specs.Shown.{entry_count, entries_in};
 ghost use Rattle.statement_checks.specs.Uses.{Used};
 
-use symbols::Mentioned;
+use name_checks::entries::Entries;
 use symbols::known::Uses;
 use symbols::tags::Tag;
 
@@ -16,23 +16,17 @@ fn note_use(uses: &mut Uses, key: u64, scope: u64, tag: Tag)
     ensures { Used uses.old scope (entry key tag ∷ []) uses.new }
 {
     match tag {
-        Tag::LabelUsed | Tag::RoutineUsed => {
-            let n = uses.count;
-            uses.keys[n] = key;
-            uses.scopes[n] = scope;
-            uses.purposes[n] = tag.purpose();
-            uses.count = n + 1;
-        }
+        Tag::LabelUsed | Tag::RoutineUsed => uses.note(key, scope, tag.purpose()),
         _ => {}
     }
 }
 
 // notes the labels and routines that a statement uses
-pub fn note_uses(uses: &mut Uses, scope: u64, mentioned: &Mentioned, met: usize)
-    requires { uses.old.count + met ≤ names_room }
-    ensures { Used uses.old scope (entries_from mentioned.now 0 met) uses.new }
+pub fn note_uses(uses: &mut Uses, scope: u64, entries: Entries)
+    requires { uses.old.count + entry_count entries ≤ names_room }
+    ensures { Used uses.old scope (entries_in entries.entry) uses.new }
 {
-    for i in 0..met {
-        note_use(uses, mentioned.keys[i], scope, mentioned.tags[i]);
+    for (key, tag) in entries.keys.iter().zip(entries.tags) {
+        note_use(uses, *key, scope, *tag);
     }
 }

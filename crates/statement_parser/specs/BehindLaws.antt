@@ -1,11 +1,12 @@
 -- A form behind names or behind skipped bytes; numbers that are set; statements that are no steps; the form of a kind. Assumes nothing.
-use Rattle.std.specs.Prelude.{Some, None, Bool, cond, ◌&&◌, ◌||◌, ◌≡◌, refl, ltb}
+use Rattle.std.specs.Prelude.{Some, None, unwrap_or, Bool, cond, ◌&&◌, ◌||◌, ◌≡◌, refl, ltb}
+use Rattle.std.specs.Prelude as std
 use Rattle.std.proofs.Math.Bool.{true, false, and-eq-true_iff, or-false}
 use mathlib.Core.List.{List, [], ◌∷◌, ◌++◌}
 use Rattle.std.proofs.Math.Option.{Option, none, some}
 use Rattle.std.proofs.Math.Path.{sym, ap, ap₂, subst}
 use Rattle.std.proofs.Common.{◌∙◌, arith, drop_of_length-le}
-use Prim.Native.Nat.{ℕ, zero, suc, ◌+◌, ◌-◌, ◌*◌, ◌≤◌}
+use Prim.Native.Nat.{ℕ, zero, suc, ◌+◌, ◌-◌, ◌≤◌}
 use Rattle.std.proofs.Math.Nat.{add-zero, zero-add}
 use Rattle.std.proofs.Math.ListN.{length, take, drop, length-append, length-drop}
 use Rattle.std.proofs.Math.Seq.{drop-drop}
@@ -39,9 +40,9 @@ use Rattle.symbols.specs.EnvironmentLaws.{names_have}
 use Rattle.symbols.specs.ParsingLaws.{succeed_then, expect_then, expect_broken, got_broken, bind_assoc, bind_same}
 use Rattle.symbols.specs.declared.Cursor.{Cursor}
 use Rattle.numeric_parser.specs.OperandLaws.{onward_none, noting_more, mentions_nothing, then_broken, chosen, ready_moved, skipped, drop-moved}
-use Rattle.numeric_parser.specs.OperandLaws.{named_by, name_mentioned, name_as_broken}
+use Rattle.numeric_parser.specs.OperandLaws.{named_by, name_mentioned, name_as_broken, word_passed, word_none}
 use Rattle.encoding.specs.Meaning.{cell_meaning}
-use Rattle.numeric_parser.specs.Operands.{ReaderReady, Gets, NameParsed, Noting, Skips, cursor_moved}
+use Rattle.numeric_parser.specs.Operands.{ReaderReady, Gets, NameParsed, Noting, Skips, cursor_moved, behind_word}
 use Rattle.numeric_parser.specs.Reads.{GetsItems}
 use Rattle.encoding.specs.declared.cells.Cell.{Cell}
 use Rattle.card_reader.specs.Keys.{key_of, is_key_byte}
@@ -165,7 +166,7 @@ module _ (known : Known) (place : ℕ) where
     pub assigned_case : (right : Cell) → right ≡ range_in c.items (d.items - c.items) 0 → (b : Bool) → ltb d.at (length text) ≡ b
         → FormAt (assigned_to known place (drop c.at text)) text table m c
         (elim b [ true ↦ None | false ↦ Some (Some (number_row right), d) ]) t m₁
-    unfolding mentioning succeed statement_items elements_in items_of elements_of all_literals with_elements any total statement_row operand_cell range_cell range_value
+    unfolding mentioning succeed statement_items elements_in items_of elements_of all_literals with_elements any total statement_row operand_cell range_cell
     assigned_case right e true h =
         record { answer = assigned_is broken (step_not text d.at (ltb-true d.at (length text) h) (set_number place a.items)) }
     assigned_case right e false h =
@@ -180,7 +181,7 @@ module _ (known : Known) (place : ℕ) where
                 statement = s;
                 made =
                     ap (λ (v : Cell). sets (cell_meaning v)) e
-                    ∙ ap (λ n. sets (Table.cell range_number 0 (c.items + 65_536 * (n + 65_536 * 0)))) count;
+                    ∙ ap (λ n. sets (Table.cell range_number 0 (range_value c.items n 0))) count;
                 formed =
                     record {
                       entries = a.entries;
@@ -251,7 +252,7 @@ module _ (known : Known) where
 
 -- ---- a unit, if it stands here
 module _ (text unit : List ℕ) {c d : Cursor} where
-  pub unit_here : length unit ≡ 4 → begins unit (drop c.at text) ≡ true → c.at ≤ length text → d ≡ cursor_moved c 4 → BehindUnit text unit c d
+  unit_here : length unit ≡ 4 → begins unit (drop c.at text) ≡ true → c.at ≤ length text → d ≡ cursor_moved c 4 → BehindUnit text unit c d
   unfolding without_unit
   unit_here size e inside s =
       let at : d.at ≡ c.at + 4 = ap (λ (z : Cursor). z.at) s in
@@ -265,7 +266,7 @@ module _ (text unit : List ℕ) {c d : Cursor} where
         inside = omega (arith, begins_room unit (drop c.at text) e, length-drop c.at text);
       }
 
-pub unit_none : (text unit : List ℕ) (c : Cursor) → begins unit (drop c.at text) ≡ false → c.at ≤ length text → BehindUnit text unit c c
+unit_none : (text unit : List ℕ) (c : Cursor) → begins unit (drop c.at text) ≡ false → c.at ≤ length text → BehindUnit text unit c c
 unfolding without_unit
 unit_none text unit c e inside =
     record {
@@ -274,6 +275,12 @@ unit_none text unit c e inside =
       is = ap {B = List ℕ} (λ b. elim b [ true ↦ drop 4 (drop c.at text) | false ↦ drop c.at text ]) e;
       inside = inside;
     }
+
+pub unit_passed : (text unit : List ℕ) (c : Cursor) (r : std.Option Cursor) → length unit ≡ 4 → c.at ≤ length text → r ≡ behind_word text unit c
+    → BehindUnit text unit c (unwrap_or r c)
+unit_passed text unit c (Some d) size inside e =
+    let here = word_passed text unit c e in unit_here text unit size here.0 inside (here.1 ∙ ap (cursor_moved c) size)
+unit_passed text unit c None size inside e = unit_none text unit c (word_none text unit c e) inside
 
 -- ---- statements that are no steps
 unstepped_case : {text table : List ℕ} {m : Mentioned} {c : Cursor} → ReaderReady text c → (b : Bool) → ltb c.at (length text) ≡ b

@@ -1,10 +1,10 @@
 -- Rows that are filled part by part. Assumes nothing.
-use Rattle.std.specs.Prelude.{Some, List, ℕ, ◌+◌, ◌-◌, ◌*◌, length}
+use Rattle.std.specs.Prelude.{Some, List, ℕ, ◌-◌, length}
 use Rattle.std.proofs.Math.Option.{Option, none, some}
 use Rattle.encoding.specs.declared.cells.Row.{Row}
 use Rattle.encoding.specs.Kinds.{range_number, replace_kind}
 use Rattle.encoding.specs.Table as Table
-use Rattle.encoding.specs.Table.{range_cell}
+use Rattle.encoding.specs.Table.{range_value, range_cell}
 use Rattle.syntax.specs.Program.{Branch, Element}
 use Rattle.symbols.specs.declared.Cursor.{Cursor}
 use Rattle.encoding.specs.declared.cells.Cell.{Cell}
@@ -30,7 +30,7 @@ abbrev pub draft_right : Row → (kind : ℕ) → Cell → Row
 draft_right r k v = record { kind = k; flag = r.flag; branch = r.branch; left = r.left; right = v }
 
 abbrev pub range_in : (from count more : ℕ) → Cell
-range_in from count more = record { kind = range_number; place = 0; value = from + 65_536 * (count + 65_536 * more) }
+range_in from count more = record { kind = range_number; place = 0; value = range_value from count more }
 
 -- the same of the table's rows
 abbrev pub bare : (kind flag : ℕ) → Table.Row

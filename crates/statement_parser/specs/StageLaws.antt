@@ -1,5 +1,5 @@
 -- How the parts of forms answer: by the case of the draft they go on from, and of what they read. Assumes nothing.
-use Rattle.std.specs.Prelude.{Some, None, Bool, true, false, ◌≡◌, refl, ℕ, ◌+◌, ◌-◌, ◌*◌, drop}
+use Rattle.std.specs.Prelude.{Some, None, Bool, true, false, ◌≡◌, refl, ℕ, ◌+◌, ◌-◌, drop}
 use mathlib.Core.List.{List, [], ◌∷◌, map}
 use Rattle.std.proofs.Math.Option.{Option, none, some}
 use Rattle.std.proofs.Math.Path.{sym, ap, subst}
@@ -156,7 +156,7 @@ pub drawn_row : {A : Type 0} {f : List A → List PatternElement} (sized : (xs :
     {text table : List ℕ} {m : Mentioned} (row : Row) {c : Cursor} {row' : Row} {cell : _} {t : List ℕ} {m₁ : Mentioned} {d : Cursor}
     → GetsRow f text table m c y t m₁ d → row' ≡ draft_right row row.kind cell → cell ≡ range_in c.elements (d.elements - c.elements) 0
     → Drawn y (λ xs. with_range c.elements xs) f text table m row c row' t m₁ d
-unfolding range_cell range_value
+unfolding range_cell
 drawn_row sized row {c} {d = d} a put made =
     let count : d.elements - c.elements ≡ length a.values = omega (arith, a.size) in
     record {
@@ -170,7 +170,7 @@ drawn_row sized row {c} {d = d} a put made =
           ∙ ap
           (λ n.
           Table.row_with row.kind row.flag row.branch.success row.branch.failure (cell_meaning row.left)
-          (Table.cell range_number 0 (c.elements + 65_536 * (n + 65_536 * 0))))
+          (Table.cell range_number 0 (range_value c.elements n 0)))
           count;
     }
 
@@ -212,7 +212,7 @@ module _ (known : Known) (from : ℕ) {text table : List ℕ} {m : Mentioned} {r
       → row' ≡ draft_right row replace_kind.number cell → cell ≡ range_in from (c.elements - from) (d.elements - c.elements)
       → Drawn (replacement_at known text c.at) (with_replacement from c.elements) (λ o. map value (replacement_of o)) text table
       m row c row' t m₁ d
-  unfolding replacement_of range_cell range_value
+  unfolding replacement_of range_cell
   replaced_got e {row'} {cell} {t} {m₁} {d} a put made =
       let count : d.elements - c.elements ≡ length a.values = omega (arith, a.size) in
       record {
@@ -231,7 +231,7 @@ module _ (known : Known) (from : ℕ) {text table : List ℕ} {m : Mentioned} {r
             ∙ ap
             (λ n.
             Table.row_with replace_kind.number row.flag row.branch.success row.branch.failure (cell_meaning row.left)
-            (Table.cell range_number 0 (from + 65_536 * (c.elements - from + 65_536 * n))))
+            (Table.cell range_number 0 (range_value from (c.elements - from) n)))
             count;
       }
 

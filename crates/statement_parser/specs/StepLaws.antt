@@ -8,12 +8,12 @@ use Rattle.std.proofs.Math.ListN.{length}
 use Rattle.base.specs.Current.{current}
 use Rattle.base.specs.Text.{bytes}
 use Rattle.branch_parser.specs.BranchLaws.{target_then}
-use Rattle.branch_parser.specs.Branches.{target_in}
+use Rattle.branch_parser.specs.Branches.{target_in, target_kind}
 use Rattle.branch_parser.specs.Places.{is_number_known}
 use Rattle.branch_parser.specs.Tests.{nowhere, test_alone}
 use Rattle.branch_parser.specs.declared.Target.{Target}
 use Rattle.branch_parser.specs.declared.Target.TheVariants.{Label, Entry, Exit}
-use Rattle.encoding.specs.Kinds.{parts, set_string_kind, goto_kind, execute_kind, null_kind, scan_kind, replace_kind, read_kind, write_kind}
+use Rattle.encoding.specs.Kinds.{parts, set_string_kind, null_kind, scan_kind, replace_kind, read_kind, write_kind}
 use Rattle.encoding.specs.RowLaws.{test-elements, test-items, scan-elements, scan-items}
 use Rattle.encoding.specs.Table as Table
 use Rattle.encoding.specs.Table.{part_cell, range_cell, statement_row, elements_of, items_of, replacement_of, direction_number, no_cell}
@@ -67,21 +67,21 @@ one_stage {U} y puts eu step kind flag {c = c} n {d} s ready is makes same none'
     (going_start (λ rest. y rest >>= λ (u, l). step_form (step u) l) n s ready is) a)
 
 -- GOTO, ROUTINE and EXECUTE
-pub target_read : (known : Known) (kind : ℕ) (target : Target) {form : List ℕ → Parsed (Option Statement)} → TargetLeads known kind target form
+pub target_read : (known : Known) (target : Target) {form : List ℕ → Parsed (Option Statement)} → TargetLeads known target form
     → {text table : List ℕ} {m : Mentioned} {c : Cursor} → ReaderReady text c → (q : Draft) {m₁ : Mentioned}
-    → StageRead (target_in known target) (λ _ s. with_steps s 0) (λ _. []) text table m (begun_as kind 0 c) q table m₁
+    → StageRead (target_in known target) (λ _ s. with_steps s 0) (λ _. []) text table m (begun_as (target_kind target) 0 c) q table m₁
     → FormAt (form (drop c.at text)) text table m c (ended_by text q) table m₁
-target_read known kind target l {text} {c = c} ready q a =
-    one_stage (target_in known target) (λ _ s. with_steps s 0) (λ _. []) l.statement kind 0 0 (stays c) ready (l.is (drop c.at text))
+target_read known target l {text} {c = c} ready q a =
+    one_stage (target_in known target) (λ _ s. with_steps s 0) (λ _. []) l.statement (target_kind target) 0 0 (stays c) ready (l.is (drop c.at text))
     (l.row c.elements c.items) l.no_elements l.no_items q a
 
 module _ (known : Known) where
-  pub goto_leads : TargetLeads known goto_kind.number Label (goto_form current (is_number_known known) (places_in known))
+  pub goto_leads : TargetLeads known Label (goto_form current (is_number_known known) (places_in known))
   unfolding goto_form label_name target_in statement_row elements_of items_of no_cell
   goto_leads =
       record { statement = goto; is = λ _. refl; row = λ _ _ _. refl; no_elements = λ _. refl; no_items = λ _. refl }
 
-  pub routine_leads : TargetLeads known goto_kind.number Exit (routine_form current (is_number_known known) (places_in known))
+  pub routine_leads : TargetLeads known Exit (routine_form current (is_number_known known) (places_in known))
   unfolding routine_form statement_row elements_of items_of no_cell
   routine_leads =
       record {
@@ -92,7 +92,7 @@ module _ (known : Known) where
         no_items = λ _. refl;
       }
 
-  pub execute_leads : TargetLeads known execute_kind.number Entry (execute_form current (is_number_known known) (places_in known))
+  pub execute_leads : TargetLeads known Entry (execute_form current (is_number_known known) (places_in known))
   unfolding execute_form statement_row elements_of items_of no_cell
   execute_leads =
       record {

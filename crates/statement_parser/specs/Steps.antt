@@ -2,14 +2,16 @@
 use Rattle.std.specs.Prelude.{Bool, List, [], ◌≡◌, ℕ, ◌≤◌, length, drop}
 use Rattle.std.proofs.Math.Option.{Option}
 use Rattle.base.specs.Current.{current}
-use Rattle.branch_parser.specs.Branches.{target_in}
+use Rattle.branch_parser.specs.Branches.{target_in, target_kind}
 use Rattle.branch_parser.specs.Places.{is_number_known}
 use Rattle.branch_parser.specs.declared.Target.{Target}
-use Rattle.encoding.specs.Table.{direction_number, statement_row, elements_of, items_of}
+use Rattle.encoding.specs.Meaning.{direction_meaning}
+use Rattle.encoding.specs.Table.{statement_row, elements_of, items_of}
+use Rattle.encoding.specs.declared.cells.Direction.{Direction}
 use Rattle.syntax.specs.Forms.{step_form, no_step_form, without_unit, sets_number, replacement, if_form, scan_form, read_form, write_form}
 use Rattle.syntax.specs.Forms.{program_form, number_form}
 use Rattle.syntax.specs.Numeric.{numeric_expression}
-use Rattle.syntax.specs.Program.{Direction, Statement, set_number, set_string}
+use Rattle.syntax.specs.Program.{Statement, set_number, set_string}
 use Rattle.syntax.specs.Parsing.{for_number, declaring, Parsed, ◌>>=◌, expect}
 use Rattle.syntax.specs.Strings.{more_of, string_expression}
 use Rattle.syntax.specs.Lexemes.{name_as, no_role, number_name, part_name}
@@ -40,17 +42,17 @@ pub record BehindUnit (text unit : List ℕ) (c d : Cursor) : Type 0 where
   pub inside : d.at ≤ length text
 
 -- a form that reads a name is a statement of the step it leads to, whose row has a kind and that step alone
-pub record TargetLeads (known : Known) (kind : ℕ) (target : Target) (form : List ℕ → Parsed (Option Statement)) : Type 0 where
+pub record TargetLeads (known : Known) (target : Target) (form : List ℕ → Parsed (Option Statement)) : Type 0 where
   pub statement : ℕ → Statement
   pub is : (bs : List ℕ) → form bs ≡ (target_in known target bs >>= λ (s, rest). step_form (statement s) rest)
-  pub row : (elements items s : ℕ) → with_steps s 0 (bare kind 0) ≡ statement_row elements items (statement s)
+  pub row : (elements items s : ℕ) → with_steps s 0 (bare (target_kind target) 0) ≡ statement_row elements items (statement s)
   pub no_elements : (s : ℕ) → [] ≡ elements_of (statement s)
   pub no_items : (s : ℕ) → [] ≡ items_of (statement s)
 
-abbrev pub TargetFormRead : (text : List ℕ) (known : Known) (m : Mentioned) (c : Cursor) (kind : ℕ) (target : Target)
+abbrev pub TargetFormRead : (text : List ℕ) (known : Known) (m : Mentioned) (c : Cursor) (target : Target)
     → Form → (m' : Mentioned) → Type 0
-TargetFormRead text known m c kind target r m' =
-    (form : List ℕ → Parsed (Option Statement)) → TargetLeads known kind target form
+TargetFormRead text known m c target r m' =
+    (form : List ℕ → Parsed (Option Statement)) → TargetLeads known target form
     → NamesFormAt (form (drop c.at text)) text m c r m'
 
 abbrev pub IfRead : (text : List ℕ) (known : Known) (m : Mentioned) (c : Cursor) → Form → (m' : Mentioned) → Type 0
@@ -63,11 +65,10 @@ abbrev pub OutputRead : (text : List ℕ) (known : Known) (table : List ℕ) (m 
     → Form → (table' : List ℕ) (m' : Mentioned) → Type 0
 OutputRead text known table m c = FormAt (write_form current (is_number_known known) (places_in known) (drop c.at text)) text table m c
 
-abbrev pub ScanRead : (text : List ℕ) (known : Known) (table : List ℕ) (m : Mentioned) (c : Cursor) (direction : ℕ)
+abbrev pub ScanRead : (text : List ℕ) (known : Known) (table : List ℕ) (m : Mentioned) (c : Cursor) (d : Direction)
     → Form → (table' : List ℕ) (m' : Mentioned) → Type 0
-ScanRead text known table m c direction r table' m' =
-    (d : Direction) → direction_number d ≡ direction
-    → FormAt (scan_form current (is_number_known known) (places_in known) d (drop c.at text)) text table m c r table' m'
+ScanRead text known table m c d =
+    FormAt (scan_form current (is_number_known known) (places_in known) (direction_meaning d) (drop c.at text)) text table m c
 
 -- the two replacements
 unfoldable pub string_set : (known : Known) → List ℕ → Parsed (Option Statement)

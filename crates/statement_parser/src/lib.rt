@@ -11,8 +11,9 @@ ghost use Rattle.statement_parser.specs.Clauses.{Starts, StatementFormRead, Stat
 ghost use Rattle.statement_parser.specs.Labels.{name_shown};
 
 use branch_parser::Target;
+use card_reader::PackedStatement;
 use classes::{is_letter, is_letter_or_digit};
-use encoding::cells::Row;
+use encoding::cells::{Direction, Row};
 use encoding::{TABLE_SIZE, step_kinds};
 use lexer::keywords::{Kind, leading};
 use numeric_parser::operands::skip;
@@ -25,6 +26,7 @@ use symbols::tags::Tag;
 use symbols::{Cursor, Mentioned};
 
 // the statement that a packed text is: its row, if it is a step
+// kept: deck_reader's judge_packed has looked the keyword up before, for 4; handed on, it would ask a clause of both passes: that it is the text's
 // kept: one match with an arm for each kind: the forms take different parts, all of which each closure of a table would have to take
 pub fn read_form(
     text: &[u8],
@@ -45,21 +47,14 @@ pub fn read_form(
         Kind::Number => numbers_form(text, mentioned, d),
         Kind::Program => program_form(text, mentioned, d),
         Kind::End | Kind::Exit => plain_form(text, d, step_kinds::FINISH),
-        Kind::Goto => target_form(text, known, mentioned, d, step_kinds::GOTO, Target::Label),
+        Kind::Goto => target_form(text, known, mentioned, d, Target::Label),
         Kind::If => if_form(text, known, mentioned, d),
-        Kind::Scan => scan_form(text, known, table, mentioned, d, 1),
-        Kind::Backscan => scan_form(text, known, table, mentioned, d, 2),
+        Kind::Scan => scan_form(text, known, table, mentioned, d, Direction::Forward),
+        Kind::Backscan => scan_form(text, known, table, mentioned, d, Direction::Backward),
         Kind::Read => input_form(text, known, mentioned, d),
         Kind::Write | Kind::Print => output_form(text, known, table, mentioned, d),
-        Kind::Routine => target_form(text, known, mentioned, d, step_kinds::GOTO, Target::Exit),
-        Kind::Execute => target_form(
-            text,
-            known,
-            mentioned,
-            d,
-            step_kinds::EXECUTE,
-            Target::Entry,
-        ),
+        Kind::Routine => target_form(text, known, mentioned, d, Target::Exit),
+        Kind::Execute => target_form(text, known, mentioned, d, Target::Entry),
         Kind::EndRoutine | Kind::Return => plain_form(text, d, step_kinds::RETURN),
         Kind::Unknown => None,
     }
@@ -83,12 +78,10 @@ fn is_name(key: u64) -> bool
     true
 }
 
-// the statement with its label, by the label's key; whole says whether the text's literals are whole
-// kept: whole stands beside the text, which is no Option: its kind is judged, by 4, where literals aren't whole too
+// the statement with its label; text is its packed text
 pub fn read_statement(
     text: &[u8],
-    label: u64,
-    whole: bool,
+    packed: PackedStatement,
     known: &Known,
     table: &mut [u8; TABLE_SIZE],
     mentioned: &mut Mentioned,
@@ -96,18 +89,18 @@ pub fn read_statement(
 ) -> Option<(Option<Row>, Cursor)>
     requires starts { Starts text.now c }
     requires names_value { c.names ≡ 0 }
-    ensures { StatementRead label whole text.now known.now table.old mentioned.old c result
+    ensures { StatementRead packed.label packed.whole text.now known.now table.old mentioned.old c result
         table.new mentioned.new }
 {
-    if !whole {
+    if !packed.whole {
         return None;
     }
-    if label == 0 {
+    if packed.label == 0 {
         return read_form(text, known, table, mentioned, c);
     }
-    if !is_name(label) {
+    if !is_name(packed.label) {
         return None;
     }
-    let d = mentioned.note(c, label, Tag::LabelDeclared);
+    let d = mentioned.note(c, packed.label, Tag::LabelDeclared);
     read_form(text, known, table, mentioned, d)
 }

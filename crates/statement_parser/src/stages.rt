@@ -8,9 +8,9 @@ ghost use Rattle.numeric_parser.specs.Operands.{ReaderReady};
 
 use branch_parser::read_branch;
 use encoding::cells::{Branch, Cell, Row};
-use encoding::{RANGE_STEP, TABLE_SIZE, cell_kinds, step_kinds};
+use encoding::{TABLE_SIZE, cell_kinds, step_kinds};
 use lexer::stands_at;
-use numeric_parser::operands::skip;
+use numeric_parser::operands::{marked, range_value};
 use string_parser::Elements;
 use symbols::known::Known;
 use symbols::{Cursor, Mentioned};
@@ -23,7 +23,7 @@ pub fn range_cell(from: usize, count: usize, more: usize) -> Cell
     Cell {
         kind: cell_kinds::RANGE,
         place: 0,
-        value: from + RANGE_STEP * (count + RANGE_STEP * more),
+        value: range_value(from, count, more),
     }
 }
 
@@ -79,10 +79,9 @@ pub fn replaced(
     ensures { ReplacedStage text.now known.now table.old mentioned.old from (Some (row, c)) result
         table.new mentioned.new }
 {
-    if !stands_at(text, c.at, b'=') {
+    let Some(behind) = marked(text, c, b'=') else {
         return Some((row, c));
-    }
-    let behind = skip(c, 1);
+    };
     let d = string_parser::row(text, known, table, mentioned, behind, Elements::OfString)?;
     let right = range_cell(from, c.elements - from, d.elements - c.elements);
     let kind = step_kinds::REPLACE;

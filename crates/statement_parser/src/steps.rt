@@ -12,12 +12,12 @@ ghost use Rattle.card_reader.specs.Packs.{longest_text};
 use crate::stages::{branch_or_next, range_cell, replaced, stretch};
 use branch_parser::tests::read_test;
 use branch_parser::{BLANK, Target, read_branch, read_target};
-use encoding::cells::{Branch, Cell, Row};
+use encoding::cells::{Branch, Cell, Direction, Row};
 use encoding::{TABLE_SIZE, cell_kinds, step_kinds};
 use lexer::names::{key_of, name_length};
-use lexer::{begins_at, stands_at};
+use lexer::stands_at;
 use numeric_parser::expression;
-use numeric_parser::operands::{marked, read_name, read_number, read_part, skip};
+use numeric_parser::operands::{behind_word, marked, read_name, read_number, read_part};
 use string_parser::Elements;
 use symbols::known::Known;
 use symbols::tags::{Role, Tag};
@@ -43,15 +43,14 @@ pub fn target_form(
     known: &Known,
     mentioned: &mut Mentioned,
     c: Cursor,
-    kind: u8,
     target: Target,
 ) -> Option<(Option<Row>, Cursor)>
     requires { ReaderReady text.now c }
-    ensures { TargetFormRead text.now known.now mentioned.old c kind target result mentioned.new }
+    ensures { TargetFormRead text.now known.now mentioned.old c target result mentioned.new }
 {
     let (success, d) = read_target(text, known, mentioned, c, target)?;
     let row = Row {
-        kind,
+        kind: target.kind(),
         branch: Branch {
             success,
             failure: 0,
@@ -74,20 +73,17 @@ pub fn if_form(
     let open = marked(text, c, b'(')?;
     let (test, d) = read_test(text, known, mentioned, open)?;
     let close = marked(text, d, b')')?;
-    let (b, e) = read_branch(text, known, mentioned, close)?;
-    let row = Row { branch: b, ..test };
+    let (branch, e) = read_branch(text, known, mentioned, close)?;
+    let row = Row { branch, ..test };
     ended(text, Some(row), e)
 }
 
 // the cursor behind a unit, if it stands here
-fn behind_unit(text: &[u8], c: Cursor, unit: &[u8]) -> Cursor
-    requires { (length unit.now ≡ 4) × InText text.now c }
+fn behind_unit(text: &[u8], c: Cursor, unit: &[u8; 4]) -> Cursor
+    requires { InText text.now c }
     ensures { BehindUnit text.now unit.now c result }
 {
-    if begins_at(text, c.at, unit) {
-        return skip(c, 4);
-    }
-    c
+    behind_word(text, c, unit).unwrap_or(c)
 }
 
 // READ
@@ -102,11 +98,11 @@ pub fn input_form(
 {
     let d = behind_unit(text, c, b"(60)");
     let (left, e) = read_part(text, known, mentioned, d, cell_kinds::STRING, None)?;
-    let (b, f) = branch_or_next(text, known, mentioned, e)?;
+    let (branch, f) = branch_or_next(text, known, mentioned, e)?;
     let row = Row {
         kind: step_kinds::READ,
         left,
-        branch: b,
+        branch,
         ..BLANK
     };
     ended(text, Some(row), f)
@@ -161,20 +157,20 @@ fn string_form(
     ended(text, Some(row), e)
 }
 
-// SCAN with direction 1, BACKSCAN with direction 2
-// kept: the direction is the number that the row's flag gets, a table's byte: an enum would be opened where the row is made
+// SCAN, or BACKSCAN
 pub fn scan_form(
     text: &[u8],
     known: &Known,
     table: &mut [u8; TABLE_SIZE],
     mentioned: &mut Mentioned,
     c: Cursor,
-    direction: u8,
+    direction: Direction,
 ) -> Option<(Option<Row>, Cursor)>
     requires { ReaderReady text.now c }
     ensures { ScanRead text.now known.now table.old mentioned.old c direction result
         table.new mentioned.new }
 {
+    let flag = direction.number();
     let reference = Some(Role::Reference);
     let (left, d) = read_part(text, known, mentioned, c, cell_kinds::STRING, reference)?;
     let open = marked(text, d, b'[')?;
@@ -182,15 +178,15 @@ pub fn scan_form(
     let close = marked(text, e, b']')?;
     let scan = Row {
         kind: step_kinds::SCAN,
-        flag: direction,
+        flag,
         left,
         right,
         ..BLANK
     };
     let from = c.elements;
     let (row, f) = replaced(text, known, table, mentioned, scan, close, from)?;
-    let (b, g) = branch_or_next(text, known, mentioned, f)?;
-    let step = Row { branch: b, ..row };
+    let (branch, g) = branch_or_next(text, known, mentioned, f)?;
+    let step = Row { branch, ..row };
     ended(text, Some(step), g)
 }
 
@@ -245,7 +241,7 @@ fn sets_number(text: &[u8], known: &Known, at: usize) -> bool
     requires { (at ≤ length text.now) × (length text.now ≤ longest_text) }
     ensures { SetsNumber text.now known.now at result }
 {
-    // where no name stands it is the empty one
+    // kept: where no name stands the empty one is asked for, as document 01's sets_number does; no clause of Known says that no number has it
     let n = name_length(text, at).unwrap_or(0);
     known.has_number(key_of(text, at, n)) && stands_at(text, at + n, b'=')
 }
@@ -288,9 +284,9 @@ fn more_numbers(text: &[u8], mentioned: &mut Mentioned, c: Cursor) -> Option<(Op
     ensures { MoreNumbersRead text.now mentioned.old c result mentioned.new }
 {
     let mut d = c;
-    while stands_at(text, d.at, b',') {
-        let (_, e) = read_name(text, mentioned, skip(d, 1), Tag::NumberDeclared)?;
-        d = e;
+    while let Some(e) = marked(text, d, b',') {
+        let (_, f) = read_name(text, mentioned, e, Tag::NumberDeclared)?;
+        d = f;
     }
     ended(text, None, d)
 }

@@ -118,7 +118,7 @@ module _ (store : List ℕ) (g : StoreGood store) (s : ℕ) (h : s < 32) where
       ∙ sym (with-splice store g s v k h)
 
   -- a part of the string is that part of the store
-  pub part_of : (i : ℕ) → i ≤ length (string_of store s)
+  part_of : (i : ℕ) → i ≤ length (string_of store s)
       → drop i (string_of store s) ≡ take (length (string_of store s) - i) (drop (1026 * s + 2 + i) store)
   part_of i k =
       let o = length (string_of store s) in

@@ -1,14 +1,14 @@
 -- Laws of spans: a stretch of bytes put anew, a list turned round, zeros seen, where a record ends.
 -- Assumes nothing.
-use Rattle.std.specs.Prelude.{true, false, ◌&&◌, ◌≡◌, refl, ℕ, zero, suc, ◌+◌, ◌-◌, ◌≤◌, ◌<◌, eqb, length, take, drop, get_or}
+use Rattle.std.specs.Prelude.{true, false, ◌&&◌, ◌≡◌, refl, ℕ, zero, suc, ◌+◌, ◌-◌, ◌≤◌, eqb, length, take, drop}
 use Rattle.std.proofs.Math.Bool.{and_assoc, and-true}
 use mathlib.Core.List.{List, [], ◌∷◌, ◌++◌}
 use Rattle.std.proofs.Common.{sym, ap, ◌∙◌, zero-add, arith, ne_eqb}
+use Rattle.std.specs.List.{fold}
 use Rattle.std.specs.Int.Bits.{bit_or, or_zero_l, or_add_and}
 use Rattle.std.proofs.lemmas.Nat.{and_le_r}
 use Rattle.std.proofs.Math.Seq.{drop-drop}
 use borrow.Rule.Slice.PartMut.{put_mid}
-use Rattle.base.specs.ListLaws.{all-next, all_end}
 use Rattle.base.specs.Lists.{all}
 use Rattle.encoding.specs.Splices.{splice}
 use Rattle.cards.specs.Bytes.{newline}
@@ -33,18 +33,14 @@ or_test (suc a) b =
     ne_eqb (bit_or (suc a) b) 0 (λ e. omega (arith, e, or_add_and (suc a) b, and_le_r (suc a) b))
     ∙ sym (ap (λ t. t && eqb b 0) (ne_eqb (suc a) 0 (λ e. omega arith)))
 
--- the zeros of a list, behind those passed
-pub zeros-more : (s : List ℕ) (i seen : ℕ) → i < length s
-    → (eqb seen 0 && all (λ b. eqb b 0) (drop i s)) ≡ (eqb (bit_or seen (get_or s i 0)) 0 && all (λ b. eqb b 0) (drop (i + 1) s))
-zeros-more s i seen h =
-    let b = get_or s i 0 in
-    let rest = all (λ b. eqb b 0) (drop (i + 1) s) in
-    ap (λ t. eqb seen 0 && t) (all-next (λ b. eqb b 0) s i h)
-    ∙ sym (and_assoc (eqb seen 0) (eqb b 0) rest)
-    ∙ ap (λ t. t && rest) (sym (or_test seen b))
-
-pub zeros_end : (s : List ℕ) (i seen : ℕ) → length s ≤ i → (eqb seen 0 && all (λ b. eqb b 0) (drop i s)) ≡ eqb seen 0
-zeros_end s i seen h = ap (λ t. eqb seen 0 && t) (all_end (λ b. eqb b 0) s i h) ∙ and-true (eqb seen 0)
+-- all bytes of a list together are zero where each is
+pub zeros-folded : (s : List ℕ) (seen : ℕ) → eqb (fold bit_or seen s) 0 ≡ (eqb seen 0 && all (λ b. eqb b 0) s)
+unfolding all
+zeros-folded [] seen = sym (and-true (eqb seen 0))
+zeros-folded (b ∷ s) seen =
+    zeros-folded s (bit_or seen b)
+    ∙ ap (λ t. t && all (λ b. eqb b 0) s) (or_test seen b)
+    ∙ and_assoc (eqb seen 0) (eqb b 0) (all (λ b. eqb b 0) s)
 
 -- a record reaches to byte 10 or the end
 record_until : (s : List ℕ) → record_length s ≡ until 10 s

@@ -31,6 +31,7 @@ fn cell_keeps(store: &[u8], at: usize) -> bool
 }
 
 // Whether a store is good: long enough, and each cell keeps its rules.
+// kept: by place, as store_keeps goes: of cells cut by as_chunks, as scan cuts rows, a law more would say that each is the store's bytes there
 pub fn keeps(store: &[u8]) -> bool
     ensures { result ≡ store_keeps store.now }
 {
@@ -57,13 +58,24 @@ pub fn string_length(store: &[u8], place: usize) -> usize
     spans::number2(store, CELL_SIZE * place)
 }
 
+// The string with this place.
+pub fn string(store: &[u8], place: usize) -> &[u8]
+    requires store_good { StoreGood store.now }
+    requires place_bound { place < 32 }
+    ensures { (result.now ≡ string_of store.now place) × (length result.now ≤ 1024) }
+{
+    let start = string_start(place);
+    &store[start..start + string_length(store, place)]
+}
+
 // Writes a length into its two bytes at a place.
-// kept: put4 of scan_statement writes four bytes so: each is one call of the library, on a type of its own (u16, u32)
+// kept: put4 of scan_statement writes the four bytes of a u32 so: each is one call, of a type of its own
+// kept: put_number of symbols goes byte by byte, for any size, in a crate of the deck: a run, which is made of this one, needs none of those
 fn set_length(store: &mut [u8], at: usize, n: usize)
     requires { (at + 1 < length store.old) × (n ≤ 1024) }
     ensures { store.new ≡ splice store.old at (in_bytes 2 n) }
 {
-    store[at..at + 2].copy_from_slice(&(n as u16).to_le_bytes());
+    spans::write(store, at, &(n as u16).to_le_bytes());
 }
 
 // Ends a string anew: zeros where it was longer, and its length.
@@ -110,6 +122,7 @@ pub fn clear(store: &mut [u8])
 }
 
 // Starts a store: zeroes it, unless it is too small. None then, and it stays as it was.
+// kept: an Option of nothing: there is one way to fail, whose number the call says
 pub fn start_store(store: &mut [u8]) -> Option<()>
     ensures { Started store.old (started_number result) store.new }
 {

@@ -1,7 +1,7 @@
-// Spans of bytes: a number read, read over, written, zeroed, moved, copied and turned, and the record at a place of the input.
+// Spans of bytes: a number read, read over, written, a line written, zeroed, moved, copied and turned, and the record at a place of the input.
 // A write's contract is one splice.
 // kept: that a span lies in its slice is a clause of each function: the two meet for that one call
-ghost use Rattle.std.specs.Prelude.{reverse, ◌≡◌, ◌+◌, ◌-◌, ◌<◌, ◌≤◌, ◌^◌, eqb, length, take, drop, replicate};
+ghost use Rattle.std.specs.Prelude.{[], ◌∷◌, ◌++◌, reverse, ◌≡◌, ◌+◌, ◌-◌, ◌<◌, ◌≤◌, ◌^◌, eqb, length, take, drop, replicate};
 ghost use Rattle.base.specs.Lists.{all};
 ghost use Rattle.encoding.specs.Numerals.{numeral_at};
 ghost use Rattle.encoding.specs.Splices.{splice};
@@ -10,7 +10,7 @@ ghost use Rattle.machine.specs.Step.{record_length};
 use base::LONGEST;
 
 // The number in the two bytes at a place, low byte first.
-// kept: scan's number4 reads four bytes so: each is one call of the library, on a type of its own (u16, u32)
+// kept: scan's number4 reads four bytes so: each is one call of the library, on a type of its own (u16, u32); of six, decoder's number6, there is none
 pub fn number2(s: &[u8], at: usize) -> usize
     requires { at + 2 ≤ length s.now }
     ensures { (result ≡ numeral_at 2 s.now at) × (result < 2 ^ 16) }
@@ -19,15 +19,11 @@ pub fn number2(s: &[u8], at: usize) -> usize
 }
 
 // Whether all bytes of s are zero.
-// kept: all bytes are looked at, which is vector code: of 1,000 zeros in 27 ns, by `s.iter().all(|b| *b == 0)` in 530
+// kept: a fold that leaves no byte out becomes vector code: of 1,000 zeros in 27 ns, by `s.iter().all(|b| *b == 0)` in 530
 pub fn are_zero(s: &[u8]) -> bool
     ensures { result ≡ all (λ b. eqb b 0) s.now }
 {
-    let mut seen = 0;
-    for b in s {
-        seen |= *b;
-    }
-    seen == 0
+    s.iter().fold(0, |seen, b| seen | *b) == 0
 }
 
 // Writes v over the bytes from a place on.
@@ -36,6 +32,17 @@ pub fn write(out: &mut [u8], at: usize, v: &[u8])
     ensures { out.new ≡ splice out.old at v.now }
 {
     out[at..at + v.len()].copy_from_slice(v);
+}
+
+// Writes v and byte 10 behind it from a place on. Gives where they end.
+pub fn put_line(out: &mut [u8], at: usize, v: &[u8]) -> usize
+    requires { at + length v.now < length out.old }
+    ensures { (out.new ≡ splice out.old at (v.now ++ (10 ∷ []))) × (result ≡ at + length v.now + 1) }
+{
+    write(out, at, v);
+    let end = at + v.len();
+    out[end] = b'\n';
+    end + 1
 }
 
 // Zeroes the bytes from..to; none if to is not above from.

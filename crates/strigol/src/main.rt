@@ -33,7 +33,8 @@ fn fail(rt: &HostRuntime, name: &str, error: io::Error) {
 }
 
 // Keeps the first bytes that a reader gives: as many as there are, and as there is room for.
-// kept: a while, since a read gives as many bytes as it likes; read_exact fails where fewer come; no Vec: only an error's words are allocated
+// kept: a while, since a read gives as many bytes as it likes; read_exact fails where fewer come; no Vec: only an error's words are allocated. It
+// answers how many, as read does: a slice of the array would have to be lent on by those that call it
 fn keep<R: Read>(from: &mut R, to: &mut [u8]) -> io::Result<usize>
     ensures { FileKept result to.new }
 {

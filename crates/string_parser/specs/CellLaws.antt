@@ -3,7 +3,7 @@ use Rattle.std.specs.Prelude.{Option, Some, Bool, true, false, ◌||◌, ◌≡�
 use mathlib.Core.List.{List, [], ◌∷◌}
 use Rattle.std.proofs.Math.Path.{sym, ap}
 use Rattle.std.proofs.Common.{◌∙◌}
-use Prim.Native.Nat.{ℕ, ◌+◌}
+use Prim.Native.Nat.{ℕ}
 use Rattle.base.specs.Current.{current}
 use Rattle.base.specs.Lists.{begins}
 use Rattle.base.specs.Text.{bytes}
@@ -18,10 +18,11 @@ use Rattle.syntax.specs.Parsing.{Role, Mentions, Parsed, got, broken, ◌>>=◌,
 use Rattle.syntax.specs.Strings.{text_call, filler_at}
 use Rattle.syntax.specs.Lexemes.{Resolution, signed, is_sign, number_name, bound, string_name, part_name}
 use Rattle.symbols.specs.Entries.{role_of, mentions_in}
-use Rattle.symbols.specs.ParsingLaws.{succeed_then, expect_then, expect_broken}
+use Rattle.symbols.specs.ParsingLaws.{expect_then, expect_broken}
 use Rattle.symbols.specs.declared.Cursor.{Cursor}
 use Rattle.symbols.specs.declared.Mentioned.{Mentioned}
 use Rattle.symbols.specs.declared.tags.Role.TheVariants.{Filler}
+use Rattle.encoding.specs.Meaning.{cell_meaning}
 use Rattle.encoding.specs.declared.cells.Cell.{Cell}
 use Rattle.numeric_parser.specs.OperandLaws.{skipped, drop-moved, then_broken, cell_same, place-cell, cell_skip, cell_then, chosen, closed_cell}
 use Rattle.numeric_parser.specs.Operands.{cursor_moved, Gets, OperandRead, PlaceRead, length_cell, placed_in, behind_parenthesis}
@@ -57,19 +58,6 @@ module _ (p : Resolution) {text : List ℕ} {m : Mentioned} {c : Cursor} where
       (expect_then (44 ∷ []) (drop c.at text) (λ (_, rest). number_end p n rest) e ∙ ap (number_end p n) (sym (drop-moved text c 1 s)))
       (cell_skip 1 q (skipped c 1 s) (a n same))
 
-  -- STRING with a constant
-  pub constant_called : (q : Option (Cell × Cursor)) (z : ℤ) (n next : ℕ) {d : Cursor} {m₁ : Mentioned} → d ≡ cursor_moved c n → c.at + n ≡ next
-      → signed current (drop c.at text) ≡ succeed z (drop next text)
-      → OperandRead bare_cell text m d (number_follows p (constantly z) (drop d.at text)) q m₁
-      → OperandRead bare_cell text m c (constant_call p (drop c.at text)) q m₁
-  constant_called q z n next s place is a =
-      let from = ap (λ (w : Cursor). drop w.at text) s ∙ ap (λ j. drop j text) place in
-      cell_same
-      (ap (λ (y : Parsed ℤ). y >>= λ (n, rest). number_follows p (constantly n) rest) is
-      ∙ succeed_then z (drop next text) (λ (n, rest). number_follows p (constantly n) rest)
-      ∙ ap (number_follows p (constantly z)) (sym from))
-      (cell_skip n q (skipped c n s) a)
-
 pub number_alone : (p : Resolution) (bs : List ℕ) → begins (44 ∷ []) bs ≡ false → (n : Length) → number_follows p n bs ≡ broken
 unfolding bytes
 number_alone p bs e n = expect_broken (44 ∷ []) bs (λ (_, rest). number_end p n rest) e
@@ -82,6 +70,16 @@ standing_constant z e m = ap (Table.cell text_kind.number m) (sym e)
 pub standing_number : (i : ℕ) → LengthCell (numbered i) text_by_kind.number i
 unfolding pattern_cell
 standing_number i m = refl
+
+-- STRING with a constant
+pub constant_called : (p : Resolution) {text : List ℕ} {m : Mentioned} {c : Cursor} (n : Cell) {m₁ : Mentioned} {d : Cursor}
+    → Gets (λ z. Table.cell text_kind.number 0 (biased z)) (cell_meaning n) text m c (signed current (drop c.at text)) m₁ d
+    → (q : Option (Cell × Cursor)) {m₂ : Mentioned}
+    → ((k : Length) → LengthCell k text_kind.number n.value → OperandRead bare_cell text m₁ d (number_follows p k (drop d.at text)) q m₂)
+    → OperandRead bare_cell text m c (constant_call p (drop c.at text)) q m₂
+constant_called p n a q b =
+    cell_then a (λ (z, rest). number_follows p (constantly z) rest) bare_cell q
+    (b (constantly a.value) (standing_constant a.value (sym (ap (λ (v : Table.Cell). v.value) a.made))))
 
 -- a fixed filler as a cell with a length
 filler-length : (s : ℕ) (n : Length) → pattern_cell 0 (fixed_filler s n) ≡ length_cell fixed_kind.number s n

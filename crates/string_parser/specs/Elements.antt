@@ -1,12 +1,12 @@
 -- What the readers of string expressions and patterns do: the elements read stand written in the table, with their literal bytes.
 -- Assumes nothing.
-use Rattle.std.specs.Prelude.{Option, Some, None, cond, ◌||◌, List, [], ◌∷◌, map, ◌≡◌, ℕ, ◌+◌, ◌*◌, ◌-◌, ◌≤◌, ◌<◌, max, eqb, ltb, length, take, drop}
+use Rattle.std.specs.Prelude.{Option, Some, None, cond, ◌||◌, List, [], ◌∷◌, map, ◌≡◌, ℕ, ◌+◌, ◌-◌, ◌≤◌, ◌<◌, max, eqb, ltb, length, take, drop}
 use Rattle.base.specs.Current.{current}
 use Rattle.base.specs.Limits as Limits
 use Rattle.base.specs.Lists.{any}
 use Rattle.encoding.specs.Kinds.{literal_kind}
 use Rattle.encoding.specs.Table as Table
-use Rattle.encoding.specs.Table.{all_literals}
+use Rattle.encoding.specs.Table.{range_value, all_literals}
 use Rattle.syntax.specs.Program.{Element, literal, PatternElement, value}
 use Rattle.syntax.specs.Parsing.{Parsed, got, broken}
 use Rattle.syntax.specs.Strings as Strings
@@ -115,7 +115,7 @@ pub record LiteralWritten (text table : List ℕ) (c : Cursor) (n size : ℕ) (t
   pub written :
       table'
       ≡ with_element (with_literals table c.literals (take n (drop (c.at + 1) text))) c.elements
-      (Table.cell literal_kind.number 0 (c.literals + 65_536 * n))
+      (Table.cell literal_kind.number 0 (range_value c.literals n 0))
 
 -- one value is read, which is this element of a pattern
 pub record GetsOne {A : Type 0} (f : A → PatternElement) (text table : List ℕ) (m : Mentioned) (c : Cursor) (x : Parsed A) (table' : List ℕ)

@@ -5,7 +5,7 @@ use mathlib.Core.List.{List, [], ◌∷◌, ◌++◌, map, append-nil, map-id}
 use Rattle.std.proofs.Math.Path.{refl, sym, ap, subst}
 use Rattle.std.proofs.Common.{ap₂, ◌∙◌, add-zero, arith, drop_of_length-le, drop-drop, length-take-le, take-take, ltb-true}
 use Rattle.std.proofs.Common.{ltb-false, lt-ltb, le-ltb, ne_eqb}
-use Prim.Native.Nat.{ℕ, zero, suc, ◌+◌, ◌*◌, ◌-◌, ◌^◌, ◌≤◌, ◌<◌}
+use Prim.Native.Nat.{ℕ, zero, suc, ◌+◌, ◌-◌, ◌≤◌, ◌<◌}
 use Rattle.std.proofs.Math.ListN.{length, take, length-drop}
 use Rattle.std.proofs.lemmas.List.{length-map}
 use Rattle.base.specs.Choice.{test_cases}
@@ -60,12 +60,11 @@ pub literal_spelt : {text table : List ℕ} {m : Mentioned} {c : Cursor} (n size
     → c.at + 1 + n ≤ length text → c.at + size ≤ length text → n < size
     → literal_at (drop (c.at + 1) text) ≡ got (take n (drop (c.at + 1) text)) (one_literal n) (drop (c.at + size) text)
     → LiteralWritten text table c n size t d → LiteralRead text table m c t d
-unfolding one_literal mentions_in gather all_literals literal_in pattern_cell range_value any
+unfolding one_literal mentions_in gather all_literals literal_in pattern_cell any
 literal_spelt {text} {table} {m} {c} n size {t} {d} ready inside end more is s =
     let w = take n (drop (c.at + 1) text) in
     let count : length w ≡ n = length-take-le n (drop (c.at + 1) text) (omega (arith, length-drop (c.at + 1) text)) in
     let all : length (w ++ []) ≡ n = ap length (append-nil w) ∙ count in
-    let place : c.literals + 65_536 * n ≡ c.literals + 2 ^ 16 * (length w + 2 ^ 16 * 0) = omega arith in
     let at : d.at ≡ c.at + size = ap (λ (z : Cursor). z.at) s.goes in
     let names : d.names ≡ c.names = ap (λ (z : Cursor). z.names) s.goes in
     let items : d.items ≡ c.items = ap (λ (z : Cursor). z.items) s.goes in
@@ -82,7 +81,7 @@ literal_spelt {text} {table} {m} {c} n size {t} {d} ready inside end more is s =
                 ∙ ap₂ (λ (i j : ℕ). got w (mentions_in [] 0 [] i) (drop j text)) (sym all) (sym at);
             written =
                 s.written
-                ∙ ap (λ j. with_element (with_literals table c.literals w) c.elements (Table.cell literal_kind.number 0 j)) place
+                ∙ ap (λ j. with_element (with_literals table c.literals w) c.elements (Table.cell literal_kind.number 0 (range_value c.literals j 0))) (sym count)
                 ∙ sym (elements-one table c.elements c.literals (value (literal w)));
             noting = noting_none c.names;
             goes =

@@ -5,12 +5,13 @@ ghost use Rattle.string_parser.specs.Cells.{NumberEnds, NumberFollows, ConstantC
 
 use encoding::cell_kinds::{FIXED, FREE, TEXT, TEXT_BY};
 use encoding::cells::Cell;
-use lexer::constants::signed;
-use lexer::{constant_at, stands_at};
-use numeric_parser::operands::{closed, marked, read_bound, read_number, read_string, skip};
+use lexer::constant_at;
+use numeric_parser::operands::{
+    closed, marked, read_bound, read_number, read_string, signed_constant,
+};
 use symbols::known::Known;
 use symbols::tags::Role;
-use symbols::{BIAS, Cursor, Mentioned, with_bias};
+use symbols::{BIAS, Cursor, Mentioned};
 
 // the m of STRING with its `)`, in a cell of a kind and a value
 fn number_end(
@@ -54,10 +55,8 @@ fn constant_call(
     requires { ReaderReady text.now c }
     ensures { ConstantCalled text.now known.now mentioned.old c result mentioned.new }
 {
-    let at = c.at;
-    let number = signed(text, at)?;
-    let d = skip(c, number.next - at);
-    number_behind(text, known, mentioned, d, TEXT, with_bias(number.value))
+    let (n, d) = signed_constant(text, c, TEXT, 0)?;
+    number_behind(text, known, mentioned, d, TEXT, n.value)
 }
 
 // STRING with a number n, or with m alone: its n is 0
@@ -71,9 +70,9 @@ fn number_call(
     ensures { NumberCalled text.now known.now mentioned.old c result mentioned.new }
 {
     let (place, d) = read_number(text, known, mentioned, c)?;
-    if stands_at(text, d.at, b',') {
+    if let Some(e) = marked(text, d, b',') {
         let value = place as usize;
-        return number_end(text, known, mentioned, skip(d, 1), TEXT_BY, value);
+        return number_end(text, known, mentioned, e, TEXT_BY, value);
     }
     let cell = Cell {
         kind: TEXT,
@@ -111,8 +110,8 @@ pub fn filler(
     ensures { FillerRead text.now known.now mentioned.old c result mentioned.new }
 {
     let (place, d) = read_string(text, known, mentioned, c, Some(Role::Filler))?;
-    if stands_at(text, d.at, b'$') {
-        let (cell, e) = read_bound(text, known, mentioned, skip(d, 1), FIXED, place)?;
+    if let Some(bound) = marked(text, d, b'$') {
+        let (cell, e) = read_bound(text, known, mentioned, bound, FIXED, place)?;
         return closed(text, cell, e);
     }
     let cell = Cell {

@@ -18,9 +18,9 @@ ghost use Rattle.string_parser.specs.Elements.{one_more, ElementRead, PatternEle
 use cells::{filler, text_call};
 use encoding::cells::Cell;
 use encoding::{TABLE_SIZE, cell_kinds};
-use lexer::{begins_at, stands_at};
+use lexer::stands_at;
 use literals::literal;
-use numeric_parser::operands::{read_part, skip};
+use numeric_parser::operands::{behind_word, marked, read_part};
 use symbols::known::Known;
 use symbols::tags::Role;
 use symbols::{Cursor, Mentioned, put_element};
@@ -34,7 +34,7 @@ pub enum Elements {
 }
 
 // writes a cell as the next element
-// kept: numeric_parser's put does so for items: the two differ in the field of the cursor that they count up, which no parameter can name
+// kept: numeric_parser's put does so for items: they differ in the rows they write to and the count they raise, so as methods of Cursor they are two
 fn put(table: &mut [u8; TABLE_SIZE], c: Cursor, v: Cell) -> Cursor
     requires { c.elements ≤ far_enough }
     ensures { (result ≡ one_more c) × (table.new ≡ with_element table.old c.elements (cell_meaning v)) }
@@ -59,12 +59,11 @@ fn element(
     ensures { ElementRead text.now known.now table.old mentioned.old c role result
         table.new mentioned.new }
 {
-    let at = c.at;
-    if stands_at(text, at, b'"') {
+    if stands_at(text, c.at, b'"') {
         return Some(literal(text, table, c));
     }
-    if begins_at(text, at, b"STRING(") {
-        let (cell, d) = text_call(text, known, mentioned, skip(c, 7))?;
+    if let Some(open) = behind_word(text, c, b"STRING(") {
+        let (cell, d) = text_call(text, known, mentioned, open)?;
         return Some(put(table, d, cell));
     }
     let (cell, d) = read_part(text, known, mentioned, c, cell_kinds::STRING, role)?;
@@ -83,8 +82,8 @@ fn pattern_element(
     ensures { PatternElementRead text.now known.now table.old mentioned.old c result
         table.new mentioned.new }
 {
-    if stands_at(text, c.at, b'(') {
-        let (cell, d) = filler(text, known, mentioned, skip(c, 1))?;
+    if let Some(open) = marked(text, c, b'(') {
+        let (cell, d) = filler(text, known, mentioned, open)?;
         return Some(put(table, d, cell));
     }
     element(text, known, table, mentioned, c, Some(Role::Sought))
@@ -125,8 +124,8 @@ fn more(
         table.new mentioned.new }
 {
     let mut d = c;
-    while stands_at(text, d.at, b',') {
-        d = one(text, known, table, mentioned, skip(d, 1), elements)?;
+    while let Some(e) = marked(text, d, b',') {
+        d = one(text, known, table, mentioned, e, elements)?;
     }
     Some(d)
 }

@@ -9,11 +9,13 @@ ghost use Rattle.card_reader.specs.Packs.{longest_text};
 ghost use Rattle.lexer.specs.Places.{CountedBytes};
 ghost use Rattle.string_parser.specs.Elements.{LiteralWritable, LiteralWritten, LiteralRead};
 
+use crate::put;
+use encoding::TABLE_SIZE;
 use encoding::cell_kinds::LITERAL;
 use encoding::cells::Cell;
-use encoding::{RANGE_STEP, TABLE_SIZE};
 use lexer::begins_at;
-use symbols::{Cursor, Mentioned, put_element, put_literals};
+use numeric_parser::operands::range_value;
+use symbols::{Cursor, Mentioned, put_literals};
 
 // how many bytes stand before the next quote
 #[tactic(auto, using(crate::proofs::Quotes::quotes_next))]
@@ -41,21 +43,20 @@ fn put_literal(
     let cell = Cell {
         kind: LITERAL,
         place: 0,
-        value: c.literals + RANGE_STEP * n,
+        value: range_value(c.literals, n, 0),
     };
-    put_element(table, c.elements, cell);
+    let d = put(table, c, cell);
     Cursor {
         at: c.at + size,
-        elements: c.elements + 1,
         literals: c.literals + n,
-        ..c
+        ..d
     }
 }
 
 // a literal at its first quote: `""` behind it is one quote, else it goes up to the next quote
 pub fn literal(text: &[u8], table: &mut [u8; TABLE_SIZE], c: Cursor) -> Cursor
     requires at_in_bounds { (c.at < length text.now) × (length text.now ≤ longest_text) }
-    requires elements_le_far_enough { (c.elements ≤ far_enough) × (c.literals ≤ far_enough) }
+    requires counts_in_bounds { (c.elements ≤ far_enough) × (c.literals ≤ far_enough) }
     ensures { (m : Mentioned) → ReaderReady text.now c → LiteralRead text.now table.old m c table.new result }
 {
     let at = c.at + 1;

@@ -144,14 +144,3 @@ pub noted : (m : Mentioned) (c : Cursor) (key : ℕ) (tag : Tag) → c.names < l
     → NameNoted m c key tag (record { keys = set m.keys c.names key; tags = set m.tags c.names tag }) (cursor_behind_name c)
 noted m c key tag h g =
     record { keyed = set-splice m.keys c.names key h; tagged = set-splice m.tags c.names tag g; goes = refl }
-
--- a constant as its cell has it
-pub biased_above : (z : ℤ) → is_negative z ≡ false → 2 ^ 47 + nat_abs z ≡ biased z
-unfolding biased bias is_negative
-biased_above (pos n) e = omega arith
-biased_above (negsuc n) e = absurd (true≢false e)
-
-pub biased-below : (z : ℤ) → is_negative z ≡ true → nat_abs z ≤ limit → 2 ^ 47 - nat_abs z ≡ biased z
-unfolding biased bias is_negative
-biased-below (pos n) e h = absurd (omega (arith, ltb-true n 0 e))
-biased-below (negsuc n) e h = rw (le-ltb (2 ^ 47) (suc n) (omega arith)) (omega arith)

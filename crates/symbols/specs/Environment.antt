@@ -1,6 +1,7 @@
 -- What the symbol table shows behind some statements of a deck: the keys of strings and numbers by their places, the labels and routines declared,
 -- and the places of the names known. Assumes nothing.
-use Rattle.std.specs.Prelude.{Bool, true, false, ◌||◌, List, [], ◌∷◌, ◌++◌, map, ℕ, suc, eqb}
+use Rattle.std.specs.List.{list_any}
+use Rattle.std.specs.Prelude.{Bool, true, false, ◌||◌, ◌==◌, List, [], ◌∷◌, ◌++◌, map, ℕ, suc, eqb}
 use Rattle.validation.specs.Deck.{index_of, step_of, routine_named}
 use Rattle.validation.specs.Environment.{Label, Routine}
 use Rattle.syntax.specs.Lexemes.{Resolution}
@@ -49,6 +50,10 @@ key_place k (j ∷ js) = elim (eqb k j) [ true ↦ 0 | false ↦ suc (key_place 
 unfoldable pub keys_have : ℕ → List ℕ → Bool
 keys_have k [] = false
 keys_have k (j ∷ js) = eqb k j || keys_have k js
+
+-- a routine with this key is declared
+abbrev pub has_routine : (known : Known) → (key : ℕ) → Bool
+has_routine known key = list_any (λ r. r.key == key) known.routines.items
 
 -- the labels declared
 unfoldable pub label_meaning : Listed.Label → Label

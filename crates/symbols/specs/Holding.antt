@@ -1,6 +1,6 @@
 -- The symbol table as the environment behind some statements: the names each once with its purpose, and the labels and routines used, each with
 -- the routine it is used in. Assumes nothing.
-use Rattle.std.specs.Prelude.{false, cond, List, [], ◌∷◌, ◌++◌, map, ◌≡◌, ℕ, zero, suc, ◌≤◌, length, get_or}
+use Rattle.std.specs.Prelude.{false, cond, List, [], ◌∷◌, ◌++◌, map, ◌≡◌, ℕ, zero, suc, ◌+◌, ◌≤◌, length, get_or}
 use Rattle.base.specs.Limits as Limits
 use Rattle.base.specs.Lists.{any}
 use Rattle.validation.specs.Environment as Environment
@@ -26,16 +26,24 @@ names_from keys purposes = values_from (mention_in keys purposes)
 unfoldable pub names_in : Names → List Mention
 names_in ns = names_from ns.keys ns.purposes 0 ns.count
 
+-- a use by keys and purpose, if it has this purpose
+abbrev pub use_with : (purpose : Purpose) → (key scope : ℕ) → Kept.Purpose → List Use
+use_with p key scope q = cond (same_purpose p (purpose_meaning q)) (record { name = name_of key; scope = name_of scope } ∷ []) []
+
 -- the uses of one purpose, n of them from i on
 unfoldable pub uses_from : (purpose : Purpose) → (keys scopes : List ℕ) (purposes : List Kept.Purpose) → (i n : ℕ) → List Use
 uses_from p keys scopes purposes i zero = []
 uses_from p keys scopes purposes i (suc n) =
-    cond (same_purpose p (purpose_meaning (get_or purposes i Program)))
-    (record { name = name_of (get_or keys i 0); scope = name_of (get_or scopes i 0) } ∷ []) []
+    use_with p (get_or keys i 0) (get_or scopes i 0) (get_or purposes i Program)
     ++ uses_from p keys scopes purposes (suc i) n
 
 unfoldable pub uses_in : Purpose → Uses → List Use
 uses_in p us = uses_from p us.keys us.scopes us.purposes 0 us.count
+
+-- a use was noted behind those there
+pub record UseNoted (us : Uses) (key scope : ℕ) (q : Kept.Purpose) (us' : Uses) : Type 0 where
+  pub few : us'.count ≡ us.count + 1
+  pub so : (p : Purpose) → uses_in p us' ≡ uses_in p us ++ use_with p key scope q
 
 -- The table holds k, of which no count passes what 10 allows. There are no more names and uses than bytes of the deck taken.
 pub record SymbolsHold (s : Symbols) (taken : ℕ) (k : Environment) : Type 0 where

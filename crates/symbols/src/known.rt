@@ -1,7 +1,9 @@
 // The symbol table behind some statements of a deck: what is known of its names, and the counts of all that 10 counts. A name is kept as its key.
 // Assumes nothing.
-ghost use Rattle.std.specs.Prelude.{◌≡◌};
-ghost use Rattle.symbols.specs.Environment.{nothing_known, key_place, keys_have, string_keys, number_keys};
+ghost use Rattle.std.specs.Prelude.{◌≡◌, ◌<◌};
+ghost use Rattle.symbols.specs.Clauses.{names_room};
+ghost use Rattle.symbols.specs.Holding.{UseNoted};
+ghost use Rattle.symbols.specs.Environment.{nothing_known, key_place, keys_have, string_keys, number_keys, has_routine};
 
 use crate::tags::Purpose;
 use crate::{NAMES, has_key, key_place};
@@ -17,7 +19,7 @@ pub const LISTED_LABELS: usize = base::LABELS + 1;
 pub const LISTED_ROUTINES: usize = base::ROUTINES + 1;
 
 // a label declared, with the step that comes next and the routine that it stands in, 0 outside all
-// kept: 0 outside all is the key of the empty name, which document 01's environment has there; an open routine has exit 0 in it too
+// kept: scope 0 outside all, and no Option: that takes 16 bytes in place of 8, in Uses 262,400 more of the stack, which GATEWAY.md bounds
 #[derive(Clone, Copy, Default)]
 pub struct Label {
     pub key: u64,
@@ -26,6 +28,7 @@ pub struct Label {
 }
 
 // a routine declared, with the step behind its ROUTINE and the one behind its ENDROUTINE, 0 as long as it is open
+// kept: exit 0 as long as it is open, as document 01's environment has it
 #[derive(Clone, Copy, Default)]
 pub struct Routine {
     pub key: u64,
@@ -35,7 +38,9 @@ pub struct Routine {
 
 // strings and numbers by their places, labels and routines as they are declared; statements and steps so far, the step behind the statement
 // that is read, whether END was the last, the key of the open routine, 0 outside all; elements, items and literal bytes
-#[derive(Drop)]
+// kept: scope 0 outside all, wherever a scope is told: it is the key of the empty name, which document 01's environment has there; see Label
+// kept: ended is a bool: no value goes with it
+#[derive(Drop, Default)]
 pub struct Known {
     pub strings: ArrayVec<u64, LISTED_STRINGS>,
     pub numbers: ArrayVec<u64, LISTED_NUMBERS>,
@@ -53,7 +58,8 @@ pub struct Known {
 
 // the names known, each once with its purpose
 // kept: columns, since a pair of key and purpose takes 16 bytes in place of 9, and GATEWAY.md bounds the stack
-// kept: loops over these columns, and those of Uses, go by index, as symbols says of Mentioned
+// kept: arrays with one count, here and in Uses: an ArrayVec for each column would keep it two or three times, and that these agree is one fact more
+// kept: that count is at most NAMES is no ghost field, nor in Uses: a law and a proof make both (with_name, with_use), and would prove it there too
 #[derive(Drop)]
 pub struct Names {
     pub keys: [u64; NAMES],
@@ -63,7 +69,6 @@ pub struct Names {
 
 // the labels and routines used, each with the routine that it is used in, 0 outside all
 // kept: columns, as above
-// kept: that count is at most NAMES is no ghost field: statement_checks notes a use field by field, and its laws make Uses as a record
 #[derive(Drop)]
 pub struct Uses {
     pub keys: [u64; NAMES],
@@ -72,6 +77,7 @@ pub struct Uses {
     pub count: usize,
 }
 
+// all that is known behind some statements
 #[derive(Drop)]
 pub struct Symbols {
     pub known: Known,
@@ -84,23 +90,11 @@ impl Known {
     pub fn new() -> Known
         ensures { result ≡ nothing_known }
     {
-        Known {
-            strings: ArrayVec::new(),
-            numbers: ArrayVec::new(),
-            labels: ArrayVec::new(),
-            routines: ArrayVec::new(),
-            statements: 0,
-            steps: 0,
-            next: 0,
-            ended: false,
-            scope: 0,
-            elements: 0,
-            items: 0,
-            literals: 0,
-        }
+        Known::default()
     }
 
     // the place of a string's name
+    // kept: this and number_place are a line each, by the list that they look in
     pub fn string_place(&self, key: u64) -> u8
         ensures { result ≡ key_place key (string_keys self.now) }
     {
@@ -119,5 +113,26 @@ impl Known {
         ensures { result ≡ keys_have key (number_keys self.now) }
     {
         has_key(self.numbers.as_slice(), key)
+    }
+
+    // whether a name is a routine's
+    pub fn has_routine(&self, key: u64) -> bool
+        ensures { result ≡ has_routine self.now key }
+    {
+        self.routines.iter().any(|routine| routine.key == key)
+    }
+}
+
+impl Uses {
+    // notes a use behind those noted before
+    pub fn note(&mut self, key: u64, scope: u64, purpose: Purpose)
+        requires { self.old.count < names_room }
+        ensures { UseNoted self.old key scope purpose self.new }
+    {
+        let n = self.count;
+        self.keys[n] = key;
+        self.scopes[n] = scope;
+        self.purposes[n] = purpose;
+        self.count = n + 1;
     }
 }

@@ -7,7 +7,7 @@ pub mod known;
 pub mod tags;
 
 ghost use Rattle.std.specs.List.{position};
-ghost use Rattle.std.specs.Prelude.{◌==◌, [], ◌∷◌, ◌≡◌, ◌+◌, ◌*◌, ◌≤◌, ◌<◌, length};
+ghost use Rattle.std.specs.Prelude.{◌==◌, ◌≡◌, ◌+◌, ◌*◌, ◌≤◌, ◌<◌, length};
 ghost use Rattle.base.specs.Current.{table_size};
 ghost use Rattle.encoding.specs.Numerals.{in_bytes, biased};
 ghost use Rattle.encoding.specs.Splices.{splice};
@@ -27,14 +27,14 @@ use encoding::{ELEMENTS_AT, ITEMS_AT, LITERALS_AT, TABLE_CELL, TABLE_SIZE};
 use numbers::Int;
 use tags::Tag;
 
-// how many names fit: one for each letter of a deck, with which a name begins, and one for the label of each of its lines
-pub const NAMES: usize = 32800;
+// how many names fit: one for each letter of a deck, since a name begins with a letter, and 32 to spare
+pub const NAMES: usize = base::DECK + 32;
 
 // what a constant has added in its cell
 pub const BIAS: usize = encoding::BIAS as usize;
 
 // where a reader is in the text; how many names, items, elements and literal bytes are written; the longest row of elements so far
-// kept: items, elements and literals stand in Known, Counts, Progress and Places too: as one struct they would be a field further away in each
+// kept: items, elements, literals are no struct, here, in Known, Counts, Progress and Places: a reader counts up one or two, few places copy all
 #[derive(Clone, Copy)]
 pub struct Cursor {
     pub at: usize,
@@ -46,9 +46,8 @@ pub struct Cursor {
 }
 
 // the names that a statement mentions, in order of time; the cursor says how many
-// kept: their count is the cursor's (met in the checks): readers answer one value with all counts, and what a failed one noted does not count
+// kept: their count is the cursor's: readers answer one value with all counts, and what a failed one noted does not count
 // kept: columns, since a pair of key and tag takes 16 bytes in place of 9, and GATEWAY.md bounds the stack
-// kept: loops over these columns go by index: over the pairs of a zip is_declared_from (name_checks) takes three times as long
 #[derive(Drop)]
 pub struct Mentioned {
     pub keys: [u64; NAMES],
@@ -89,12 +88,7 @@ pub fn with_bias(z: Int) -> usize
     requires { IntInRange z }
     ensures { result ≡ biased z.value }
 {
-    let size = numbers::size(z) as usize;
-    if numbers::is_negative(z) {
-        BIAS - size
-    } else {
-        BIAS + size
-    }
+    numbers::biased(z) as usize
 }
 
 // writes a number into its so many bytes at a place, low byte first
@@ -103,7 +97,7 @@ pub fn put_number(table: &mut [u8], at: usize, size: usize, number: usize)
     ensures { table.new ≡ splice table.old at (in_bytes size number) }
 {
     let mut n = number;
-    // kept: by index: with iter_mut over the part the loop is as long, and that the part comes to lie in the table wants a law more
+    // kept: by index: to_le_bytes has 8 bytes, so callers would have to show that size is at most 8; a loop over iter_mut is as long, with a law more
     for i in 0..size {
         table[at + i] = (n % 256) as u8;
         n /= 256;

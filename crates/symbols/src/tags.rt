@@ -19,7 +19,8 @@ pub enum Role {
     Filler,
 }
 
-// a byte each, for as many names as a deck can mention
+// what a name is mentioned as: its purpose, whether it is declared, and a string's role, in one
+// kept: eleven variants, no struct of the three: they take a byte, for as many names as a deck can mention
 #[derive(Clone, Copy, PartialEq, Eq)]
 pub enum Tag {
     ProgramDeclared,
@@ -37,6 +38,7 @@ pub enum Tag {
 
 impl Tag {
     // a string's, by its role if it has one
+    // kept: a function: its contract says the tag in one clause, where From<Option<Role>> has a ghost member for it
     #[tactic(auto, unfolding(crate::specs::Entries::string_tag))]
     pub fn of_string(role: Option<Role>) -> Tag
         ensures { result ≡ string_tag role }

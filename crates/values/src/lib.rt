@@ -17,7 +17,8 @@ pub enum Stop {
 
 impl Stop {
     // its number in an answer
-    // kept: a method, here and for the refusals: its contract says the number in one clause, where From has a ghost member for it (from_gives)
+    // kept: a method, here and for refusals, kinds, flags and outcomes: its contract says the number in one clause, where From has a ghost
+    // member for it (from_gives); and a trait of such methods would have an impl of the same lines for each
     pub fn number(self) -> u32
         ensures { result ≡ stop_number self }
     {

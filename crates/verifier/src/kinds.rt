@@ -218,7 +218,7 @@ fn literal_holds(rule: ValueRule, value: usize, at: usize) -> bool
 }
 
 // The place among the literals behind an element whose literal stands at a place: none if the element breaks a rule. Kinds go up to high.
-// kept: at's bound by a clause, here and below: it is the literals' part of Places, whose bound is no ghost field (steps)
+// kept: at's bound by a clause, here, above and below: it is the literals' part of Places, whose bound is no ghost field (steps)
 fn element_end(c: Cell, high: u8, at: usize, n: Counts) -> Option<usize>
     requires { at ≤ 65536 }
     ensures is { result ≡ element_end n.strings n.numbers n.steps high at (cell_meaning c) }
@@ -237,8 +237,8 @@ fn element_end(c: Cell, high: u8, at: usize, n: Counts) -> Option<usize>
 }
 
 // The place among the literals behind so many elements, from element k on: none if one breaks a rule.
-// kept: by index, as are the crate's other loops: decoder reads at a place of the table, from which chunks_exact would cut bytes first
-// kept: place and count, here and below, come apart: they are out of two structs (Places, Stretches), and a Stretch would be made for a single loop
+// kept: by index, as are the crate's other loops: each reads, mostly by decoder, at a place of the table, from which chunks_exact would cut first
+// kept: place and count, here and below, come apart: one is out of Places, one out of Stretches, and a Stretch of both would be made at each call
 pub fn elements_end(
     t: &[u8],
     k: usize,
@@ -275,6 +275,7 @@ fn role_holds(kind: u8, place: usize, marked: bool, reference: usize) -> bool
 }
 
 // Whether the roles of so many elements of a pattern, from element k on, are.
+// kept: kind and place by their bytes, by the order of kinds: decoder's PatternElement would have a filler's length made too, which no role asks
 pub fn roles_hold(t: &[u8], k: usize, count: usize, reference: usize) -> bool
     requires { (table_size ≤ length t.now) × (k + count ≤ 1024) }
     ensures { result ≡ roles_test t.now reference (replicate 256 false) k count }

@@ -1,7 +1,7 @@
 // Whether a table keeps its rules (docs/TABLE.md). Each cell and row is judged by its kind, in one pass; the running places of elements,
 // items and literals say what a range has to be. The contracts cite tests that mirror the code, and the rules themselves at the end.
 // Assumes nothing.
-// kept: a table and its counts come apart: what judges a cell or a row takes the counts alone, and the tests of the contracts have both so
+// kept: a table is a slice, as crate encoding says, and comes apart from its counts: what judges a cell or a row takes the counts alone
 #![tactic(auto)]
 
 mod kinds;
@@ -59,6 +59,7 @@ fn ends_hold(t: &[u8], n: Counts) -> bool
 }
 
 // Whether there are places behind all steps, and they are the header's counts.
+// kept: field by field: Places and Counts have three fields in common, and Counts three more
 fn totals_hold(end: Option<Places>, n: Counts) -> bool
     ensures { result ≡ totals_test n end }
 {

@@ -212,6 +212,7 @@ fn right_holds(rule: RightRule, right: Cell, n: Counts) -> bool
 }
 
 // What the row's range holds.
+// kept: decoder takes such numbers out of a range too: there one stretch at a time, from its place on; here what the rule says that there is
 fn stretches_of(rule: RightRule, range: usize) -> Stretches
     ensures { (result ≡ stretches_of (right_meaning rule) range) × RangesShort result }
 {
@@ -280,10 +281,7 @@ fn row_holds(rule: RowRule, r: Row, n: Counts) -> bool
 fn has_pattern(rule: RightRule) -> bool
     ensures { result ≡ is_pattern (right_meaning rule) }
 {
-    match rule {
-        RightRule::PatternRight | RightRule::ReplacingRight => true,
-        _ => false,
-    }
+    matches!(rule, RightRule::PatternRight | RightRule::ReplacingRight)
 }
 
 // The last kind that the first elements of a row may have.

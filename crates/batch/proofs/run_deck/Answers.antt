@@ -10,9 +10,10 @@ use Rattle.encoding.specs.Buffers.{store_size}
 use Rattle.calls.specs.Calls.{Buffers}
 use Rattle.calls.specs.Promises.{read_back}
 use Rattle.calls.specs.Strigol.{lent_output, most_steps}
-use Rattle.interpreter.specs.Endings.{ran_back}
+use Rattle.base.specs.Text.{bytes}
+use Rattle.interpreter.specs.Endings.{outcome_meaning, ran_back}
 use Rattle.batch.specs.Printing.{longest_line}
-use Rattle.batch.specs.PrintLaws.{refused_printed, RunPrints, run-printed, ran-prints}
+use Rattle.batch.specs.PrintLaws.{word_short, refused_line, started_zeros, refused_printed, RunPrints, run-printed, ran-prints}
 use Rattle.batch.proofs.run_deck.Goals.{After-run-ran}
 use Rattle.batch.proofs.run_deck.Goals as goal
 
@@ -43,20 +44,21 @@ printing c =
     let read = c.strigol_read-number in
     run-printed (replicate table_size 0) (replicate store_size 0) (take 16384 c.args.out.now) read.new.card
     (ap (λ (n : ℕ). read_back n read.new.card read.new.table) (sym c.if-number-ne0.false) ∙ read.ensures.does)
-    c.strigol_start.ensures.does
+    (started_zeros c.start.ensures)
     c.run-ran.ensures
     (omega (arith, length-replicate {A = ℕ} store_size 0))
     (length-take-le 16384 c.args.out.now (room c.args.out.now c.requires.room))
     c.requires.kept_input_lem
 
 pub returns-then-number-ne0 : goal.returns-then-number-ne0
-unfolding current
+unfolding current bytes
 returns-then-number-ne0 c =
     let read = c.strigol_read-number in
     let put = c.put_line.ensures in
     record {
       within = put.within;
       bytes = put.holds
+          ∙ refused_line read.result read.new.card
           ∙ sym
           (refused_printed c.args.deck.now c.args.input.now (replicate table_size 0) c.requires.kept_deck_lem
           (read_back read.result read.new.card read.new.table) read.ensures.does (omega (arith, length-replicate {A = ℕ} table_size 0))
@@ -74,7 +76,8 @@ pub put_line-requires-2 : goal.put_line-requires-2
 unfolding lent_output
 put_line-requires-2 c =
     let ran = (goal.at.put_line-requires-2 c).After-run-ran in
-    omega (arith, (printing ran).within, output-back ran, lent_back ran, c.requires.room)
+    let word = word_short (outcome_meaning ran.run-ran.result.outcome) in
+    (rw c.word.ensures word, omega (arith, (printing ran).within, output-back ran, lent_back ran, c.requires.room))
 
 pub shape_of-out : goal.shape_of-out
 shape_of-out c =
@@ -85,4 +88,4 @@ pub returns : goal.returns
 unfolding lent_output
 returns c =
     let ran = (goal.at.returns c).After-run-ran in
-    ran-prints ran.run-ran.result (lent_after ran) (drop 16384 c.args.out.now) (printing ran) c.put_line-2.ensures
+    ran-prints ran.run-ran.result (lent_after ran) (drop 16384 c.args.out.now) c.word.ensures c.number.ensures (printing ran) c.put_line-2.ensures

@@ -1,49 +1,42 @@
 -- `branch_parser::read_targets` reads one label or two.
-use mathlib.Core.List.{[], ◌∷◌}
-use mathlib.Core.Path.{sym, ◌∙◌}
 use lib.ListN.{drop}
-use native.Mathlib.Omega.{arith}
-use Rattle.numeric_parser.specs.OperandLaws.{ready_moved}
+use Rattle.numeric_parser.specs.OperandLaws.{mark_passed, mark_none, mark_ready}
 use Rattle.branch_parser.specs.BranchLaws.{branch_lost, targets_failing, targets-both, targets_success, targets_broken}
 use Rattle.branch_parser.proofs.read_targets.Goals as goal
 
 pub read_failure-requires : goal.read_failure-requires
-read_failure-requires c = ready_moved (44 ∷ []) c.requires c.skip.ensures (sym c.stands_at.ensures ∙ c.if-stands_at.true)
+read_failure-requires c = mark_ready c.args.text.now 44 c.args.c c.requires c.in-Some.ensures
 
-pub returns-then-stands_at : goal.returns-then-stands_at
-returns-then-stands_at c =
+pub returns-in-Some : goal.returns-in-Some
+returns-in-Some c =
     let a = c.args in
     let f = c.read_failure in
-    let comma = sym c.stands_at.ensures ∙ c.if-stands_at.true in
-    targets_failing a.known.now comma f.result
-    c.skip.ensures f.ensures
+    let comma = mark_passed a.text.now 44 a.c c.in-Some.ensures in
+    targets_failing a.known.now comma.0 f.result comma.1 f.ensures
 
-pub skip-requires-then-stands_at-2 : goal.skip-requires-then-stands_at-2
-skip-requires-then-stands_at-2 c = omega (arith, c.in_ok-success.ensures.answer.ready)
+pub read_failure-requires-in-Some-marked : goal.read_failure-requires-in-Some-marked
+read_failure-requires-in-Some-marked c =
+    mark_ready c.args.text.now 44 c.in_ok-success.d c.in_ok-success.ensures.answer.ready c.in-Some-marked.ensures
 
-pub read_failure-requires-then-stands_at-2 : goal.read_failure-requires-then-stands_at-2
-read_failure-requires-then-stands_at-2 c =
-    ready_moved (44 ∷ []) c.in_ok-success.ensures.answer.ready c.skip-then-stands_at-2.ensures
-    (sym c.stands_at-2.ensures ∙ c.if-stands_at-2.true)
-
-pub returns-then-stands_at-2 : goal.returns-then-stands_at-2
-returns-then-stands_at-2 c =
+pub returns-in-Some-marked : goal.returns-in-Some-marked
+returns-in-Some-marked c =
     let a = c.args in
-    let f = c.read_failure-then-stands_at-2 in
-    let none = sym c.stands_at.ensures ∙ c.if-stands_at.false in
-    let comma = sym c.stands_at-2.ensures ∙ c.if-stands_at-2.true in
-    targets-both a.known.now none c.in_ok-success.ensures.answer comma f.result
-    c.skip-then-stands_at-2.ensures f.ensures
+    let f = c.read_failure-in-Some-marked in
+    let none = mark_none a.text.now 44 a.c c.in_default.ensures in
+    let comma = mark_passed a.text.now 44 c.in_ok-success.d c.in-Some-marked.ensures in
+    targets-both a.known.now none c.in_ok-success.ensures.answer comma.0 f.result comma.1 f.ensures
 
 pub returns-in_err-success : goal.returns-in_err-success
 returns-in_err-success c =
     let a = c.args in
     branch_lost c.from_residual.ensures
-    (targets_broken a.known.now (drop a.c.at a.text.now) (sym c.if-stands_at.ensures) c.in_err-success.ensures.answer)
+    (targets_broken a.known.now (drop a.c.at a.text.now) (mark_none a.text.now 44 a.c c.in_default.ensures) c.in_err-success.ensures.answer)
 
 pub returns : goal.returns
 returns c =
+    let a = c.args in
     record {
       answer =
-          targets_success c.args.known.now (sym c.if-stands_at.ensures) c.in_ok-success.ensures.answer (sym c.if-stands_at-2.ensures);
+          targets_success a.known.now (mark_none a.text.now 44 a.c c.in_default.ensures) c.in_ok-success.ensures.answer
+          (mark_none a.text.now 44 c.in_ok-success.d c.in_default-marked.ensures);
     }

@@ -7,18 +7,18 @@ use Rattle.validation.specs.RefusalNumbers.{refusal_number_some}
 use Rattle.deck_reader.proofs.read_deck.Goals as goal
 
 pub judge_deck-requires : goal.judge_deck-requires
-judge_deck-requires c = record { symbols_hold = nothing_held _ c.new.ensures refl refl; deck_len_bound = c.requires.0 }
+judge_deck-requires c = nothing_held _ c.new.ensures refl refl
 
 pub write_table-requires : goal.write_table-requires
 write_table-requires c =
-    record { deck_accepted = accepted_whole c.requires.0 (c.in_ok-judge_deck.ensures.accepts refl); deck_len_bound = c.requires.0 }
+    accepted_whole c.args.deck.short (c.in_ok-judge_deck.ensures.accepts refl)
 
 pub returns : goal.returns
 returns c =
-    accepted_read c.requires.0 c.in_ok-judge_deck.ensures c.blank.ensures refl c.write_table.ensures c.write.ensures
+    accepted_read c.args.deck.short c.in_ok-judge_deck.ensures c.blank.ensures refl c.write_table.ensures c.write.ensures
 
 pub returns-in_err-judge_deck : goal.returns-in_err-judge_deck
 returns-in_err-judge_deck c =
     let e = c.in_err-judge_deck in
     let p = err_from_is_err_and c.from_residual.result c.from_residual.ensures.1 in
-    rw (p.1, p.2) (refused_read c.requires.0 e.ensures c.blank.ensures (refusal_number_some e.field-0.0.refusal))
+    rw (p.1, p.2) (refused_read c.args.deck.short e.ensures c.blank.ensures (refusal_number_some e.field-0.0.refusal))

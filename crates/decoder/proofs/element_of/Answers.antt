@@ -25,7 +25,7 @@ returns-in-80 c t =
     literal_element (cell_meaning c.args.c) t stretch.result kind stretch.ensures
 
 pub returns-in-81 : goal.returns-in-81
-returns-in-81 c t = text_element (cell_meaning c.args.c) t c.unbias.result c.in-81.is c.unbias.ensures
+returns-in-81 c t = text_element (cell_meaning c.args.c) t c.unbiased.result c.in-81.is c.unbiased.ensures
 
 pub returns-in-82 : goal.returns-in-82
 returns-in-82 c t = numbered_text_element (cell_meaning c.args.c) t c.in-82.is

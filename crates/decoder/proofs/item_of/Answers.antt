@@ -1,26 +1,17 @@
 -- `decoder::item_of` meets its contract.
 use borrow.Author.Rules.{rules}
+use mathlib.Core.Path.{◌∙◌, ap}
+use native.Mathlib.Omega.{arith}
+use Rattle.syntax.specs.Program as Program
 use Rattle.encoding.specs.Kinds.{operator_number, sign_number}
 use Rattle.encoding.specs.TableReading.{item_of_cell}
 use Rattle.encoding.specs.Meaning.{cell_meaning}
-use Rattle.decoder.proofs.Cells.{operand_item}
+use Rattle.decoder.proofs.Cells.{operator_item, operand_item}
 use Rattle.decoder.proofs.item_of.Goals as goal
 
 pub returns-in-16 : goal.returns-in-16
-unfolding item_of_cell
-returns-in-16 c = rw c.in-16.is
-
-pub returns-in-17 : goal.returns-in-17
-unfolding item_of_cell
-returns-in-17 c = rw c.in-17.is
-
-pub returns-in-18 : goal.returns-in-18
-unfolding item_of_cell
-returns-in-18 c = rw c.in-18.is
-
-pub returns-in-19 : goal.returns-in-19
-unfolding item_of_cell
-returns-in-19 c = rw c.in-19.is
+unfolding operator_number
+returns-in-16 c = ap Program.operator c.operator_of.ensures ∙ operator_item (cell_meaning c.args.c) (omega arith) (omega arith)
 
 pub returns-in-24 : goal.returns-in-24
 unfolding item_of_cell

@@ -5,7 +5,7 @@ use Rattle.decoder.proofs.Cells.{constant_operand, number_operand, length_operan
 use Rattle.decoder.proofs.operand_of.Goals as goal
 
 pub returns-in-32 : goal.returns-in-32
-returns-in-32 c = constant_operand (cell_meaning c.args.c) c.unbias.result c.in-32.is c.unbias.ensures
+returns-in-32 c = constant_operand (cell_meaning c.args.c) c.unbiased.result c.in-32.is c.unbiased.ensures
 
 pub returns-in-33 : goal.returns-in-33
 returns-in-33 c = number_operand (cell_meaning c.args.c) c.in-33.is

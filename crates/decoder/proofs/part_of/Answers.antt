@@ -11,8 +11,8 @@ returns-then-kind-first c =
 pub returns-then-kind-first-2 : goal.returns-then-kind-first-2
 returns-then-kind-first-2 c =
     let args = c.args in
-    constant_part (cell_meaning args.c) args.first c.unbias.result c.if-kind-first.false c.if-kind-first-2.true
-    c.unbias.ensures
+    constant_part (cell_meaning args.c) args.first c.unbiased.result c.if-kind-first.false c.if-kind-first-2.true
+    c.unbiased.ensures
 
 pub returns-then-kind-first-3 : goal.returns-then-kind-first-3
 returns-then-kind-first-3 c =

@@ -8,7 +8,7 @@ pub returns-in-96 : goal.returns-in-96
 returns-in-96 c t = free_pattern (cell_meaning c.args.c) t c.in-96.is
 
 pub returns-in-97 : goal.returns-in-97
-returns-in-97 c t = fixed_pattern (cell_meaning c.args.c) t c.unbias.result c.in-97.is c.unbias.ensures
+returns-in-97 c t = fixed_pattern (cell_meaning c.args.c) t c.unbiased.result c.in-97.is c.unbiased.ensures
 
 pub returns-in-98 : goal.returns-in-98
 returns-in-98 c t = numbered_fixed_pattern (cell_meaning c.args.c) t c.in-98.is

@@ -1,5 +1,5 @@
 -- `effects::take_record` meets its contract: there is no record to be read, or the bytes put are those of the record.
-use Rattle.std.proofs.Common.{ℕ, ◌+◌, min, sym, subst, ◌≡◌, ◌-◌, ◌≤◌, ◌∙◌, ap, arith, length, drop, take, length-drop}
+use Rattle.std.proofs.Common.{ℕ, Some, ◌+◌, min, sym, subst, ◌≡◌, ◌-◌, ◌≤◌, ◌∙◌, ap, arith, length, drop, take, length-drop}
 use Rattle.base.specs.ListLaws.{stretch_cut}
 use Rattle.encoding.specs.BufferLaws.{store_with}
 use Rattle.store.specs.SpanLaws.{record_within}
@@ -34,7 +34,7 @@ returns c =
     let n = c.next_record-n.result in
     let from = a.from in
     let wanted : c.min-2.result ≡ min n (min a.most 1024) = c.min-2.ensures ∙ ap (min n) c.min.ensures in
-    subst (λ (j : ℕ). RecordTaken a.store.now c.put.new.store a.input.now a.place a.most from (from + j)) (sym c.min-3.ensures)
+    subst (λ (j : ℕ). RecordTaken a.store.now c.put.new.store a.input.now a.place a.most from (Some (from + j))) (sym c.min-3.ensures)
     (took_some a.store.now a.input.now a.place a.most from c.requires (omega arith) (omega arith) n c.next_record-n.ensures c.put.new.store
     (c.put.ensures
     ∙ ap (store_with a.store.now a.place)

@@ -2,23 +2,13 @@
 use mathlib.Core.List.{List}
 use mathlib.Core.Path.{sym, ap₂, subst}
 use Prim.Native.Nat.{ℕ}
-use native.Mathlib.Omega.{arith}
+use Rattle.std.proofs.Common.{Bor}
 use Rattle.machine.specs.Expressions.{element_in}
-use Rattle.decoder.specs.Holds.{ElementHolds}
 use Rattle.values.specs.Conversion.{text_of}
-use Rattle.values.specs.Result.{Result, pure}
+use Rattle.values.specs.Result.{Result, done, pure}
+use Rattle.values.specs.declared.Noted.{Noted}
 use Rattle.evaluator.specs.Appending.{Appends}
 use Rattle.evaluator.proofs.append_element.Goals as goal
-
-pub append_between-requires-clause-lies : goal.append_between-requires-clause-lies
-append_between-requires-clause-lies c =
-    let holds = subst ElementHolds c.in-Literal.is c.requires.holds in
-    record {
-      order = omega (arith, holds.order);
-      within = omega (arith, holds.inside, c.requires.bytes);
-      short = omega (arith, holds.inside);
-      few = omega arith;
-    }
 
 pub append_text-requires-clause-both_in_range : goal.append_text-requires-clause-both_in_range
 append_text-requires-clause-both_in_range c =
@@ -28,15 +18,18 @@ append_text-requires-clause-both_in_range c =
 pub returns-in-Literal : goal.returns-in-Literal
 unfolding element_in pure
 returns-in-Literal c =
-    rw c.in-Literal.is c.append_between.ensures
+    let after = c.append_noted.new.out in
+    rw c.in-Literal.is
+    (subst (λ (v : Noted (Bor (List ℕ))). Appends c.append_noted.result c.args.out.now after c.args.at (done v.value.now v.notes))
+    c.plain.ensures c.append_noted.ensures)
 
 pub returns-in-Part : goal.returns-in-Part
 unfolding element_in
 returns-in-Part c =
-    let after = c.append_between-in-Part.new.out in
+    let after = c.append_noted-in-Part.new.out in
     rw c.in-Part.is
-    (subst (λ (w : Result (List ℕ)). Appends c.append_between-in-Part.result c.args.out.now after c.args.at w)
-    (sym c.part_ends.ensures.work) c.append_between-in-Part.ensures)
+    (subst (λ (w : Result (List ℕ)). Appends c.append_noted-in-Part.result c.args.out.now after c.args.at w)
+    (sym c.part_bytes.ensures.work) c.append_noted-in-Part.ensures)
 
 pub returns-in-Text : goal.returns-in-Text
 unfolding element_in

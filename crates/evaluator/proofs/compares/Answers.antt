@@ -10,13 +10,13 @@ use Rattle.numbers.specs.Numbers.{comparison_meaning}
 use Rattle.machine.specs.Expressions.{operand_in, compared, test_in}
 use Rattle.decoder.specs.Meaning.{operand_meaning}
 use Rattle.values.specs.Result.{done}
-use Rattle.evaluator.specs.Memory.{memory_in}
+use Rattle.evaluator.specs.Meaning.{memory_meaning}
 use Rattle.evaluator.proofs.Working.{operand_notes, both-done, second_stops, first_stops}
 use Rattle.evaluator.proofs.compares.Goals as goal
 
 pub overflow_add-result : goal.overflow_add-result
 overflow_add-result c =
-    let m = memory_in c.args.memory.store.now c.args.memory.state.now in
+    let m = memory_meaning c.args.memory in
     omega (
       arith,
       operand_notes m (operand_meaning c.args.x.left) c.operand_value.ensures c.in_ok-left.was,
@@ -42,7 +42,7 @@ returns-in_err-right c =
 pub returns-in_err-left : goal.returns-in_err-left
 unfolding test_in
 returns-in_err-left c =
-    let m = memory_in c.args.memory.store.now c.args.memory.state.now in
+    let m = memory_meaning c.args.memory in
     let left = number_stops c.operand_value.ensures c.in_err-left.was in
     let p = err_from_is_err_and c.from_residual.result c.from_residual.ensures.1 in
     rw (p.1, p.2)

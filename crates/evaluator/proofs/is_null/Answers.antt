@@ -14,6 +14,5 @@ pub returns : goal.returns
 unfolding test_in pure string_at
 returns c state =
     let a = c.args in
-    rw c.plain.ensures
-    (ap (λ (t : Bool). done t 0)
-    (ap (λ (n : ℕ). eqb n 0) c.string_length.ensures.0 ∙ sym (nil_length (string_of a.store.now a.place))))
+    ap (λ (t : Bool). done t 0)
+    (ap (λ (n : ℕ). eqb n 0) c.string_length.ensures.0 ∙ sym (nil_length (string_of a.store.now a.place)))

@@ -2,13 +2,13 @@
 use mathlib.Core.Path.{sym}
 use native.Mathlib.Omega.{arith}
 use Rattle.std.proofs.lemmas.Result.{err_from_is_err_and}
-use Rattle.evaluator.specs.Memory.{memory_in}
+use Rattle.evaluator.specs.Meaning.{memory_meaning}
 use Rattle.evaluator.proofs.Valuing.{valuing_begins, valuing_one, valuing_ends, valuing_finds, valuing_noted, valuing_stops, valuing_more}
 use Rattle.evaluator.proofs.items_value.Goals as goal
 
 pub loop-at-init : goal.loop-at-init
 loop-at-init c =
-    valuing_begins (memory_in c.args.memory.store.now c.args.memory.state.now) c.args.table.now c.args.s.from c.args.s.count
+    valuing_begins (memory_meaning c.args.memory) c.args.table.now c.args.s.from c.args.s.count
     c.requires.1.whole
 
 pub take_item-requires : goal.take_item-requires

@@ -4,19 +4,19 @@ use lib.IntN.{ℤ, pos}
 use Rattle.machine.specs.Expressions.{operand_in}
 use Rattle.machine.specs.State.{string_at}
 use Rattle.values.specs.Result.{done, pure}
-use Rattle.evaluator.specs.Memory.{memory_in}
+use Rattle.evaluator.specs.Meaning.{memory_meaning}
 use Rattle.evaluator.proofs.Operands.{constant_answers, number_answers}
 use Rattle.evaluator.proofs.operand_value.Goals as goal
 
 pub returns-in-Constant : goal.returns-in-Constant
 returns-in-Constant c =
     rw c.plain.ensures
-    (constant_answers (memory_in c.args.memory.store.now c.args.memory.state.now) c.args.a c.in-Constant.z c.in-Constant.is c.requires)
+    (constant_answers (memory_meaning c.args.memory) c.args.a c.in-Constant.z c.in-Constant.is c.requires)
 
 pub returns-in-Number : goal.returns-in-Number
 returns-in-Number c =
     rw c.plain-in-Number.ensures
-    (number_answers (memory_in c.args.memory.store.now c.args.memory.state.now) c.args.a c.in-Number.i c.number_at.result c.in-Number.is
+    (number_answers (memory_meaning c.args.memory) c.args.a c.in-Number.i c.number_at.result c.in-Number.is
     (c.number_at.ensures c.args.memory.store.now))
 
 pub returns-in-LengthOf : goal.returns-in-LengthOf

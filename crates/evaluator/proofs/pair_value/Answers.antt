@@ -5,14 +5,13 @@ use native.Mathlib.Omega.{arith}
 use lib.IntN.{ℤ}
 use Rattle.std.proofs.lemmas.Result.{err_from_is_err_and}
 use Rattle.base.specs.Current.{current}
-use Rattle.decoder.specs.Reading.{operator_of_kind}
 use Rattle.numbers.specs.Laws.{number_is, number_stops}
 use Rattle.numbers.specs.Numbers.{NumberAnswers}
 use Rattle.syntax.specs.Program.{Operator}
 use Rattle.machine.specs.Expressions.{operand_in, numeric_in, operation}
 use Rattle.decoder.specs.Meaning.{operand_meaning, operator_meaning, items_meaning}
 use Rattle.values.specs.Result.{Result, with_notes}
-use Rattle.evaluator.specs.Memory.{memory_in}
+use Rattle.evaluator.specs.Meaning.{memory_meaning}
 use Rattle.evaluator.specs.Notes.{few_done, few_operation}
 use Rattle.evaluator.proofs.Pairing.{pair_items, first_holds, second_holds, pair_works, pair_first_stops, pair_second_stops}
 use Rattle.evaluator.proofs.Working.{operand_notes, number_noted, number_stopped}
@@ -31,7 +30,7 @@ module _ (c : After-operation) where
   -- the notes of both operands
   notes : c.in_ok-a.a.notes + c.in_ok-b.b.notes ≤ 4
   notes =
-      let m = memory_in c.args.memory.store.now c.args.memory.state.now in
+      let m = memory_meaning c.args.memory in
       omega (
         arith,
         operand_notes m (operand_meaning c.operand_at.result) c.operand_value.ensures c.in_ok-a.was,
@@ -40,17 +39,16 @@ module _ (c : After-operation) where
 
   -- the whole is what the operator makes of them, with these notes before
   abbrev made : Result ℤ
-  made = operation current (operator_meaning c.operator_of-operator.result) c.in_ok-a.a.value.value c.in_ok-b.b.value.value
+  made = operation current (operator_meaning c.operator_at.result) c.in_ok-a.a.value.value c.in_ok-b.b.value.value
 
   works : with_notes (c.in_ok-a.a.notes + c.in_ok-b.b.notes) made
-      ≡ numeric_in current (memory_in c.args.memory.store.now c.args.memory.state.now) (items_meaning c.args.table.now c.args.s)
+      ≡ numeric_in current (memory_meaning c.args.memory) (items_meaning c.args.table.now c.args.s)
   works =
-      let m = memory_in c.args.memory.store.now c.args.memory.state.now in
+      let m = memory_meaning c.args.memory in
       let items = pair_items c.requires.items_hold.1 c.requires.pair_at in
       let left = ap (operand_in current m) (sym c.operand_at.ensures) ∙ number_is c.operand_value.ensures c.in_ok-a.was in
       let right = ap (operand_in current m) (sym c.operand_at-2.ensures) ∙ number_is c.operand_value-2.ensures c.in_ok-b.was in
-      let sign = c.operator_of-operator.ensures ∙ ap operator_of_kind c.item_kind.ensures in
-      ap (λ (o : Operator). with_notes (c.in_ok-a.a.notes + c.in_ok-b.b.notes) (operation current o c.in_ok-a.a.value.value c.in_ok-b.b.value.value)) sign
+      ap (λ (o : Operator). with_notes (c.in_ok-a.a.notes + c.in_ok-b.b.notes) (operation current o c.in_ok-a.a.value.value c.in_ok-b.b.value.value)) c.operator_at.ensures
       ∙ sym (pair_works m items left right)
 
 pub overflow_add-a : goal.overflow_add-a
@@ -58,7 +56,7 @@ overflow_add-a c = omega (arith, notes (goal.at.overflow_add-a c).After-operatio
 
 pub behind-requires : goal.behind-requires
 behind-requires c =
-    let o = operator_meaning c.operator_of-operator.result in
+    let o = operator_meaning c.operator_at.result in
     let few = few_done (few_operation current o c.in_ok-a.a.value.value c.in_ok-b.b.value.value) (number_is c.operation.ensures c.in_ok-made.was) in
     omega (arith, few, notes (goal.at.behind-requires c).After-operation)
 
@@ -77,7 +75,7 @@ returns-in_err-made c =
 
 pub returns-in_err-b : goal.returns-in_err-b
 returns-in_err-b c =
-    let m = memory_in c.args.memory.store.now c.args.memory.state.now in
+    let m = memory_meaning c.args.memory in
     let items = pair_items c.requires.items_hold.1 c.requires.pair_at in
     let left = ap (operand_in current m) (sym c.operand_at.ensures) ∙ number_is c.operand_value.ensures c.in_ok-a.was in
     let right = ap (operand_in current m) (sym c.operand_at-2.ensures) ∙ number_stops c.operand_value-2.ensures c.in_err-b.was in
@@ -86,7 +84,7 @@ returns-in_err-b c =
 
 pub returns-in_err-a : goal.returns-in_err-a
 returns-in_err-a c =
-    let m = memory_in c.args.memory.store.now c.args.memory.state.now in
+    let m = memory_meaning c.args.memory in
     let items = pair_items c.requires.items_hold.1 c.requires.pair_at in
     let left = ap (operand_in current m) (sym c.operand_at.ensures) ∙ number_stops c.operand_value.ensures c.in_err-a.was in
     let p = err_from_is_err_and c.from_residual.result c.from_residual.ensures.1 in

@@ -3,14 +3,14 @@ use Prim.Native.Nat.{◌≤◌}
 use native.Mathlib.Omega.{arith}
 use Rattle.std.proofs.lemmas.Result.{err_from_is_err_and}
 use Rattle.base.specs.Current.{table_size}
-use Rattle.evaluator.specs.Memory.{memory_in}
+use Rattle.evaluator.specs.Meaning.{memory_meaning}
 use Rattle.evaluator.proofs.Spelling.{spelling_begins, spelling_ends, spelling_noted, spelling_stops, spelling_more}
 use Rattle.evaluator.proofs.string_value.Goals.{In_ok-more}
 use Rattle.evaluator.proofs.string_value.Goals as goal
 
 pub loop-at-init : goal.loop-at-init
 loop-at-init c =
-    spelling_begins (memory_in c.args.memory.store.now c.args.memory.state.now) c.args.table.now c.args.s.from c.args.s.count
+    spelling_begins (memory_meaning c.args.memory) c.args.table.now c.args.s.from c.args.s.count
     c.args.out.now c.requires.out_len
 
 pub append_element-requires : goal.append_element-requires

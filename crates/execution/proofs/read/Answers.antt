@@ -13,7 +13,7 @@ returns c output p s =
     let went = c.read_record in
     let a = c.args in
     let moves = subst (λ r. RecordRead r a.store.now went.new.store a.state.now went.new.state a.input.now (part_meaning a.p)) c.in_ok-success.was went.ensures in
-    rw (c.go_to.ensures, c.choose.ensures)
+    rw c.take_branch.ensures
     (reads p a.input.now (buffers a.store.now a.state.now output) s c.in_ok-success.success went.new.store went.new.state (part_meaning a.p)
     (branch_meaning a.b) moves)
 

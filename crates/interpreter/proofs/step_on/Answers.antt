@@ -35,7 +35,7 @@ returns-then-lacks_return c = record {
     answers = lacking_answers c.requires.given (lacks (goal.at.returns-then-lacks_return c).After-lacks_return ∙ c.if-lacks_return.true) refl refl;
     notes_are = refl;
   };
-  scan_lent_2 = c.requires.scan_lent;
+  kept_stays = c.requires.kept_good;
 }
 
 pub returns-then-not-is_running : goal.returns-then-not-is_running
@@ -45,7 +45,7 @@ returns-then-not-is_running c =
         answers = ended_answers c.requires.given (lacks (goal.at.returns-then-not-is_running c).After-lacks_return ∙ c.if-lacks_return.false) ended refl refl;
         notes_are = refl;
       };
-      scan_lent_2 = c.requires.scan_lent;
+      kept_stays = c.requires.kept_good;
     }
 
 -- neither
@@ -69,7 +69,7 @@ execute_statement-did-requires c =
     let s = c in record {
       allowed = step_allowed c.requires.given (free goes) (running goes);
       answer_value = silent_zeros;
-      scan_lent = c.requires.scan_lent;
+      kept_good = c.requires.kept_good;
     }
 
 pub returns : goal.returns
@@ -83,5 +83,5 @@ returns c =
       step_taken = rw (done_called c.requires.given (free goes) (runs goes))
           (concluded-taken c.requires.given (running goes) called.result left _ (work_of a.input.now b (next_statement a.table.now a.state.now))
           called.ensures.works_on.works c.conclude.ensures);
-      scan_lent_2 = called.ensures.scan_lent_2;
+      kept_stays = called.ensures.kept_stays;
     }

@@ -15,7 +15,7 @@ repeat-requires c =
     (search rules)
 
 pub returns-in-Ok : goal.returns-in-Ok
-returns-in-Ok c = step_kept (search rules) (c.repeat.ensures.step_answers refl)
+returns-in-Ok c = rw c.number.ensures (step_kept (search rules) (c.repeat.ensures.step_answers refl))
 
 pub returns-in-Err : goal.returns-in-Err
 returns-in-Err c =

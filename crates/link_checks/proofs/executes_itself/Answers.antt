@@ -16,4 +16,4 @@ returns c =
     (λ x b q k. search rules)
     ∙ range_below (back_at pairs count) count
     ∙ ap (λ n. below (back_at pairs n) n) c.len-count.ensures.value
-    ∙ pairs_12 c.args.symbols.now pairs c.executed_pairs-executed.ensures none
+    ∙ pairs_12 c.args.symbols.now pairs c.executed_pairs-executed.ensures (omega arith) none

@@ -4,6 +4,8 @@ use Prim.Native.Nat.{ℕ, ◌+◌, ◌*◌}
 use native.Mathlib.Omega.{arith}
 use lib.ListN.{drop}
 use Rattle.values.specs.Conversion.{decimal}
+use Rattle.numbers.specs.Laws.{small, beyond}
+use Rattle.numbers.specs.Numbers.{if_small}
 use Rattle.numbers.proofs.Reading.{decimal-next, decimal_end, decimal_grows}
 use Rattle.numbers.proofs.decimal_of.Goals.{After-digit_of}
 use Rattle.numbers.proofs.decimal_of.Goals as goal
@@ -30,10 +32,8 @@ next c =
 pub returns-then-v-gt-LIMIT : goal.returns-then-v-gt-LIMIT
 returns-then-v-gt-LIMIT c =
     let all = next (goal.at.returns-then-v-gt-LIMIT c).After-digit_of in
-    record {
-      same = λ h. absurd (omega arith);
-      above = λ h. omega (arith, all, decimal_grows (c.loop-b.v * 10 + c.digit_of.result) (drop (c.loop-b.b-index + 1) c.args.digits.now));
-    }
+    let more = decimal_grows (c.loop-b.v * 10 + c.digit_of.result) (drop (c.loop-b.b-index + 1) c.args.digits.now) in
+    sym (beyond (decimal 0 c.args.digits.now) (omega (arith, all, more)))
 
 pub loop-b-preserved : goal.loop-b-preserved
 loop-b-preserved c = (omega arith, next (goal.at.loop-b-preserved c).After-digit_of)
@@ -41,4 +41,4 @@ loop-b-preserved c = (omega arith, next (goal.at.loop-b-preserved c).After-digit
 pub returns : goal.returns
 returns c =
     let all = c.loop-b.invariant.1 ∙ decimal_end c.loop-b.v c.args.digits.now c.loop-b.b-index c.loop-b-test.false in
-    record { same = λ h. sym all; above = λ h. absurd (omega (arith, c.loop-b.invariant.0)) }
+    sym (ap if_small all ∙ small c.loop-b.v c.loop-b.invariant.0)

@@ -1,16 +1,17 @@
 -- `numbers::number_of` meets its contract. A value above the limit leaves the range with either sign.
-use mathlib.Core.Bool.{true}
-use mathlib.Core.List.{List}
-use mathlib.Core.Path.{◌≡◌, sym, ap, subst, ◌∙◌}
-use Prim.Native.Nat.{ℕ}
+use mathlib.Core.Path.{sym, ap, ◌∙◌}
 use native.Mathlib.Omega.{arith}
 use lib.IntN.{ℤ, neg_ℤ}
-use lib.ListN.{drop}
-use Rattle.values.specs.Conversion.{decimal, is_numeric}
-use Rattle.values.specs.Result.{done}
-use Rattle.numbers.specs.Numbers.{sign_length, Capped}
-use Rattle.numbers.proofs.Reading.{sign_most, rest-is, numeric_some, number_other, number_beyond, number_negative, number_positive}
-use Rattle.numbers.proofs.number_of.Goals.{After-decimal_of-v}
+use Rattle.std.proofs.Common.{Result, Ok, Err, ℕ, ok_or}
+use Rattle.std.proofs.lemmas.Result.{err_from_is_err_and}
+use Rattle.values.specs.Conversion.{decimal}
+use Rattle.values.specs.Result.{done, stop}
+use Rattle.values.specs.Stops.{stop_number}
+use Rattle.values.specs.declared.Stop.{Stop}
+use Rattle.numbers.specs.Numbers.{if_small}
+use Rattle.numbers.specs.Laws.{small_is}
+use Rattle.numbers.proofs.Reading.{numeric_some, number_other, number_beyond, number_negative, number_positive}
+use Rattle.numbers.proofs.number_of.Goals.{then-s-eq45, else-s-eq45}
 use Rattle.numbers.proofs.number_of.Goals as goal
 
 pub returns-then-not-is_numeric : goal.returns-then-not-is_numeric
@@ -19,57 +20,44 @@ returns-then-not-is_numeric c =
     let other = sym numeric.ensures ∙ c.if-not-is_numeric.true in
     record { work = sym (number_other c.args.s.now other); range = omega arith }
 
-pub slice_bounds-decimal_of-count : goal.slice_bounds-decimal_of-count
-slice_bounds-decimal_of-count c = omega (arith, c.sign_length.ensures, sign_most c.args.s.now)
+-- which stop an error is
+abbrev told : Result ℕ Stop → ℕ
+told (Ok v) = 0
+told (Err s) = stop_number s
 
-pub slice_bounds-decimal_of-start : goal.slice_bounds-decimal_of-start
-slice_bounds-decimal_of-start c = omega (arith, c.sign_length.ensures, sign_most c.args.s.now)
+pub returns-in_err-ok_or : goal.returns-in_err-ok_or
+returns-in_err-ok_or c =
+    let e = c.in_err-ok_or.ensures in
+    let digits = ap (λ s. if_small (decimal 0 s)) c.unsigned_part.ensures in
+    let beyond = number_beyond c.args.s.now (sym c.is_numeric.ensures ∙ c.if-not-is_numeric.false) (sym digits ∙ sym c.decimal_of.ensures ∙ e.ok_part) in
+    let p = err_from_is_err_and c.from_residual.result c.from_residual.ensures.1 in
+    rw (p.1, p.2) (record { work = ap (λ r. stop (told r)) (e.value ∙ ap (λ o. ok_or o Stop.OutOfRange) e.ok_part) ∙ sym beyond; range = tt })
 
-module _ (c : After-decimal_of-v) where
-  abbrev string : List ℕ
-  string = c.args.s.now
-
-  numeric : is_numeric string ≡ true
-  numeric =
-      let call = c.is_numeric in
-      sym call.ensures ∙ c.if-not-is_numeric.false
-
-  capped : Capped c.decimal_of-v.result (decimal 0 (drop (sign_length string) string))
-  capped =
-      subst (λ (digits : List ℕ). Capped c.decimal_of-v.result (decimal 0 digits))
-      (rest-is c.sign_length.result string ∙ ap (λ (k : ℕ). drop k string) c.sign_length.ensures) c.decimal_of-v.ensures
-
-pub returns-then-v-gt-LIMIT : goal.returns-then-v-gt-LIMIT
-returns-then-v-gt-LIMIT c =
-    let d = (goal.at.returns-then-v-gt-LIMIT c).After-decimal_of-v in
-    record { work = sym (number_beyond (string d) (numeric d) ((capped d).above c.if-v-gt-LIMIT.true)); range = tt }
+pub int_of-z-requires : goal.int_of-z-requires
+int_of-z-requires c = (small_is (sym c.decimal_of.ensures ∙ c.in_ok-ok_or.ensures.ok_part)).1
 
 pub bounds-s-0 : goal.bounds-s-0
-bounds-s-0 c =
-    let d = (goal.at.bounds-s-0 c).After-decimal_of-v in
-    omega (arith, numeric_some (string d) (numeric d))
-
-pub returns-then-s-eq45 : goal.returns-then-s-eq45
-returns-then-s-eq45 c =
-    let d = (goal.at.returns-then-s-eq45 c).After-decimal_of-v in
-    let v = c.decimal_of-v.result in
-    let small = c.if-v-gt-LIMIT.false in
-    let value = c.negate.ensures.value ∙ ap neg_ℤ c.int_of.ensures.value in
-    rw c.plain.ensures
-    (record {
-      work = ap (λ (z : ℤ). done z 0) value
-          ∙ sym (number_negative (string d) (numeric d) v ((capped d).same small) small c.if-s-eq45.true);
-      range = c.negate.ensures.range;
-    })
+bounds-s-0 c = omega (arith, numeric_some c.args.s.now (sym c.is_numeric.ensures ∙ c.if-not-is_numeric.false))
 
 pub returns : goal.returns
 returns c =
-    let d = (goal.at.returns c).After-decimal_of-v in
-    let v = c.decimal_of-v.result in
-    let small = c.if-v-gt-LIMIT.false in
-    rw c.plain-2.ensures
-    (record {
-      work = ap (λ (z : ℤ). done z 0) c.int_of-2.ensures.value
-          ∙ sym (number_positive (string d) (numeric d) v ((capped d).same small) small c.if-s-eq45.false);
-      range = c.int_of-2.ensures.range;
-    })
+    let numeric = sym c.is_numeric.ensures ∙ c.if-not-is_numeric.false in
+    let digits = ap (λ s. if_small (decimal 0 s)) c.unsigned_part.ensures in
+    let same = sym digits ∙ sym c.decimal_of.ensures ∙ c.in_ok-ok_or.ensures.ok_part in
+    rw c.plain.ensures
+    (elim c.if-s-eq45.branch [
+      | then-s-eq45 w ↦
+          rw w.plain-is
+          (record {
+            work = ap (λ (z : ℤ). done z 0) (w.negate.ensures.value ∙ ap neg_ℤ c.int_of-z.ensures.value)
+                ∙ sym (number_negative c.args.s.now numeric same w.if-s-eq45.true);
+            range = w.negate.ensures.range;
+          })
+      | else-s-eq45 w ↦
+          rw w.plain-is
+          (record {
+            work = ap (λ (z : ℤ). done z 0) c.int_of-z.ensures.value
+                ∙ sym (number_positive c.args.s.now numeric same w.if-s-eq45.false);
+            range = c.int_of-z.ensures.range;
+          })
+    ])

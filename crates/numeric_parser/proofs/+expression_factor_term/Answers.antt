@@ -1,5 +1,5 @@
 -- The cycle of readers: an expression of terms, a term of factors, a factor of an expression in parentheses.
-use Rattle.std.proofs.Common.{not, Option, Some, None, [], ◌∷◌, ◌∙◌, drop, sym, ap, subst, arith}
+use Rattle.std.proofs.Common.{not, Option, Some, None, ◌∙◌, drop, sym, ap, subst, arith}
 use Rattle.base.specs.Text.{bytes}
 use Rattle.syntax.specs.Numeric.{deepest}
 use Rattle.symbols.specs.Environment.{places_in}
@@ -8,7 +8,7 @@ use borrow.Author.Tests.{lt-ltb, le-ltb}
 use Rattle.numeric_parser.specs.JoinLaws.{joining_begins, joining_signed, joining_broken, joining_ends, joining_again, joining_less}
 use Rattle.numeric_parser.specs.JoinLaws.{sum-joins, product-joins, expression_joined, term_joined}
 use Rattle.numeric_parser.specs.KindLaws.{sign_told, sum_told, product_told, items_lost, inside_closed, deeper}
-use Rattle.numeric_parser.specs.OperandLaws.{ready_moved}
+use Rattle.numeric_parser.specs.OperandLaws.{mark_passed, mark_none, mark_ready}
 use Rattle.numeric_parser.specs.ReadLaws.{too_deep}
 use Rattle.numeric_parser.specs.Reads.{FactorRead}
 use Rattle.numeric_parser.proofs.+expression_factor_term.Goals as goal
@@ -48,10 +48,10 @@ expression-loop-e-preserved t c =
     (sum-joins (places_in c.args.known.now) c.args.depth (sum_told _ _ c.mark_at-mark-in-loop-e.ensures))
     (c.is_none.ensures ∙ ap not c.if-is_none.false) c.skip-d-in-loop-e.ensures
 
-pub factor-returns-then-not-stands_at : goal.factor-returns-then-not-stands_at
+pub factor-returns-in_default : goal.factor-returns-in_default
 unfolding bytes
-factor-returns-then-not-stands_at t c =
-    c.write_operand.ensures c.args.depth (sym c.stands_at.ensures ∙ c.if-not-stands_at.true)
+factor-returns-in_default t c =
+    c.write_operand.ensures c.args.depth (mark_none c.args.text.now 40 c.args.c c.in_default.ensures)
 
 pub factor-returns-then-depth-ge-DEEPEST : goal.factor-returns-then-depth-ge-DEEPEST
 unfolding bytes deepest
@@ -60,14 +60,14 @@ factor-returns-then-depth-ge-DEEPEST t c =
     record {
       answer =
           too_deep (places_in a.known.now) a.depth (drop a.c.at a.text.now)
-          (sym c.stands_at.ensures ∙ c.if-not-stands_at.false) (le-ltb _ _ (omega arith));
+          (mark_passed a.text.now 40 a.c c.in-Some.ensures).0 (le-ltb _ _ (omega arith));
     }
 
 pub factor-expression-requires : goal.factor-expression-requires
 factor-expression-requires t c =
-    let paren = sym c.stands_at.ensures ∙ c.if-not-stands_at.false in
-    let ready = ready_moved (40 ∷ []) c.requires c.skip.ensures paren in
-    let at = ap (λ (z : Cursor). z.at) c.skip.ensures in
+    let a = c.args in
+    let ready = mark_ready a.text.now 40 a.c c.requires c.in-Some.ensures in
+    let at = ap (λ (z : Cursor). z.at) (mark_passed a.text.now 40 a.c c.in-Some.ensures).1 in
     (omega (arith, at, ready.inside), ready)
 
 pub factor-returns-in_err-d : goal.factor-returns-in_err-d
@@ -75,9 +75,9 @@ unfolding bytes deepest
 factor-returns-in_err-d t c =
     let a = c.args in
     let p = places_in a.known.now in
-    let paren = sym c.stands_at.ensures ∙ c.if-not-stands_at.false in
+    let paren = mark_passed a.text.now 40 a.c c.in-Some.ensures in
     items_lost c.from_residual.ensures
-    (inside_closed p a.depth a.c paren (lt-ltb _ _ (omega arith)) None (deeper p a.depth a.c c.skip.ensures c.in_err-d.ensures)).answer
+    (inside_closed p a.depth a.c paren.0 (lt-ltb _ _ (omega arith)) None (deeper p a.depth a.c paren.1 c.in_err-d.ensures)).answer
 
 pub factor-returns : goal.factor-returns
 unfolding bytes deepest
@@ -85,13 +85,12 @@ factor-returns t c =
     let a = c.args in
     let p = places_in a.known.now in
     let new = c.expression.new in
-    let paren = sym c.stands_at.ensures ∙ c.if-not-stands_at.false in
+    let paren = mark_passed a.text.now 40 a.c c.in-Some.ensures in
     subst
     (λ (r : Option Cursor).
     FactorRead a.text.now a.known.now a.table.now a.mentioned.now a.c a.depth r new.table new.mentioned)
-    (sym c.marked.ensures)
-    (inside_closed p a.depth a.c paren (lt-ltb _ _ (omega arith)) (Some c.in_ok-d.d)
-    (deeper p a.depth a.c c.skip.ensures c.in_ok-d.ensures))
+    (sym c.marked-2.ensures)
+    (inside_closed p a.depth a.c paren.0 (lt-ltb _ _ (omega arith)) (Some c.in_ok-d.d) (deeper p a.depth a.c paren.1 c.in_ok-d.ensures))
 
 pub term-loop-e-init : goal.term-loop-e-init
 term-loop-e-init t c =

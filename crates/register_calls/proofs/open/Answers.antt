@@ -7,9 +7,10 @@ use Rattle.register.specs.Claims.{buffer_back}
 use Rattle.register.specs.Refusals.{number_of}
 use Rattle.register.specs.declared.Refusal.{Refusal}
 use Rattle.register.specs.declared.Refusal.TheVariants.{BadBuffer}
-use Rattle.register_reading.specs.declared.Held.{Held}
-use Rattle.register_reading.specs.Reading.{RegisterRead}
-use Rattle.register_reading.specs.ReadLaws.{is_broken, is_old, is_opened_lem}
+use Rattle.register_lines.specs.declared.Fields.{Fields}
+use Rattle.register_lines.specs.declared.Fields.TheVariants.{Four, Five}
+use Rattle.register_reading.specs.Reading.{RegisterRead, Unopened}
+use Rattle.register_reading.specs.ReadLaws.{held_old, held_opened, is_broken, read_known}
 use Rattle.register_calls.specs.OpenLaws.{open_bad_gets, open_broken_gets, opened_again_gets}
 use Rattle.register_calls.proofs.open.Goals as goal
 
@@ -23,31 +24,33 @@ returns-in_err-ok_or c =
     let a = c.args in
     let e = c.in_err-ok_or.ensures in
     let read = c.read_register in
+    let keys = read.new.keys.items in
     let p = err_from_is_err_and c.from_residual.result c.from_residual.ensures.1 in
     rw (p.1, p.2)
-    (ap (λ (r : Result Held Refusal). buffer_back (number_of r) a.buffer.now) (e.value ∙ ap (λ h. ok_or h BadBuffer) e.ok_part)
+    (ap (λ (r : Result Fields Refusal). buffer_back (number_of r) a.buffer.now) (e.value ∙ ap (λ h. ok_or h BadBuffer) e.ok_part)
     ∙ open_broken_gets a.buffer.now a.currency.now (sym c.is_currency.ensures ∙ c.if-not-is_currency.false)
-    (is_broken a.buffer.now read.new.keys.items (subst (RegisterRead a.buffer.now read.new.keys.items) e.ok_part read.ensures)))
+    (is_broken a.buffer.now keys (subst (RegisterRead a.buffer.now keys) e.ok_part read.ensures)))
 
 pub tell_house-requires : goal.tell_house-requires
 tell_house-requires c =
     let a = c.args in
     let keys = c.read_register.new.keys.items in
-    let read = subst (RegisterRead a.buffer.now keys) (c.in_ok-ok_or.ensures.ok_part ∙ ap Some c.in-Opened.is) c.read_register.ensures in
-    let keeps = (is_opened_lem a.buffer.now keys c.in-Opened.field-0 read).counted.keeps in
+    let read = subst (RegisterRead a.buffer.now keys) (c.in_ok-ok_or.ensures.ok_part ∙ ap Some c.in-Five.is) c.read_register.ensures in
+    let keeps = (read_known a.buffer.now keys Five read).keeps in
     (currency_size a.currency.now (sym c.is_currency.ensures ∙ c.if-not-is_currency.false), omega (arith, sound_size a.buffer.now keeps))
 
 pub open_old-requires : goal.open_old-requires
 open_old-requires c =
     let a = c.args in
     let keys = c.read_register.new.keys.items in
-    let read = subst (RegisterRead a.buffer.now keys) (c.in_ok-ok_or.ensures.ok_part ∙ ap Some c.in-Old.is) c.read_register.ensures in
-    (is_old a.buffer.now keys c.in-Old.n read, sym c.is_currency.ensures ∙ c.if-not-is_currency.false)
+    let read = subst (RegisterRead a.buffer.now keys) (c.in_ok-ok_or.ensures.ok_part ∙ ap Some c.in-Four.is) c.read_register.ensures in
+    let old = held_old a.buffer.now keys (read_known a.buffer.now keys Four read) in
+    (subst (Unopened a.buffer.now) (sym c.len.ensures.value) old, sym c.is_currency.ensures ∙ c.if-not-is_currency.false)
 
-pub returns-in-Opened : goal.returns-in-Opened
-returns-in-Opened c =
+pub returns-in-Five : goal.returns-in-Five
+returns-in-Five c =
     let a = c.args in
     let keys = c.read_register.new.keys.items in
-    let read = subst (RegisterRead a.buffer.now keys) (c.in_ok-ok_or.ensures.ok_part ∙ ap Some c.in-Opened.is) c.read_register.ensures in
-    opened_again_gets a.buffer.now a.currency.now (sym c.is_currency.ensures ∙ c.if-not-is_currency.false) c.in-Opened.field-0 keys
-    c.tell_house.new.buffer (is_opened_lem a.buffer.now keys c.in-Opened.field-0 read) c.tell_house.ensures
+    let read = subst (RegisterRead a.buffer.now keys) (c.in_ok-ok_or.ensures.ok_part ∙ ap Some c.in-Five.is) c.read_register.ensures in
+    opened_again_gets a.buffer.now a.currency.now (sym c.is_currency.ensures ∙ c.if-not-is_currency.false) keys
+    c.tell_house.new.buffer (held_opened a.buffer.now keys (read_known a.buffer.now keys Five read)) c.tell_house.ensures

@@ -1,8 +1,7 @@
 -- `register_report::put_report` meets its contract: the lines, and the TOTAL lines behind them.
-use mathlib.Core.Path.{ap, sym, ◌∙◌}
+use mathlib.Core.Path.{sym}
 use native.Mathlib.Omega.{arith}
 use lib.Seq.{length-take-le}
-use Rattle.register.specs.Claims.{report_back}
 use Rattle.register_report.specs.PutLaws.{report-done, report_full, report_small, size_is, totals_fit}
 use Rattle.register_report.proofs.put_report.Goals as goal
 
@@ -11,15 +10,14 @@ overflow_add-size c =
     let t = c.make_totals-sizes in
     omega (
       arith,
-      report_small c.args.buffer.now c.args.n c.requires.0,
-      size_is c.args.buffer.now c.args.n c.requires.0 t.new.out t.result t.ensures,
+      report_small c.args.register.buffer.now c.args.register.lines c.args.register.counted,
+      size_is c.args.register.buffer.now c.args.register.lines c.args.register.counted t.new.out t.result t.ensures,
     )
 
 pub returns-then-output-size : goal.returns-then-output-size
 returns-then-output-size c =
     let t = c.make_totals-sizes in
-    ap (λ k. report_back 21 c.args.output.now k) c.requires.1
-    ∙ report_full c.args.buffer.now c.args.n c.requires.0 t.new.out t.result t.ensures c.args.output.now
+    report_full c.args.register.buffer.now c.args.register.lines c.args.register.counted t.new.out t.result t.ensures c.args.output.now
     (omega arith)
 
 pub slice_bounds-write-end : goal.slice_bounds-write-end
@@ -31,17 +29,17 @@ pub write-requires : goal.write-requires
 write-requires c =
     let t = c.make_totals-sizes in
     let l = c.put_lines-at in
-    totals_fit c.args.buffer.now c.args.n c.requires.0 t.new.out t.result t.ensures c.args.output.now
+    totals_fit c.args.register.buffer.now c.args.register.lines c.args.register.counted t.new.out t.result t.ensures c.args.output.now
     (omega arith) l.new.output l.result l.ensures
 
-pub overflow_cast-length : goal.overflow_cast-length
-overflow_cast-length c =
+pub overflow_cast-result : goal.overflow_cast-result
+overflow_cast-result c =
     let t = c.make_totals-sizes in
     record {
       fits = omega (
         arith,
-        report_small c.args.buffer.now c.args.n c.requires.0,
-        size_is c.args.buffer.now c.args.n c.requires.0 t.new.out t.result t.ensures,
+        report_small c.args.register.buffer.now c.args.register.lines c.args.register.counted,
+        size_is c.args.register.buffer.now c.args.register.lines c.args.register.counted t.new.out t.result t.ensures,
       );
     }
 
@@ -50,5 +48,5 @@ returns c =
     let t = c.make_totals-sizes in
     let l = c.put_lines-at in
     let w = c.write in
-    report-done c.args.buffer.now c.args.n c.requires.0 t.new.out t.result t.ensures c.args.output.now
+    report-done c.args.register.buffer.now c.args.register.lines c.args.register.counted t.new.out t.result t.ensures c.args.output.now
     (omega arith) l.new.output l.result l.ensures w.new.out w.ensures

@@ -33,7 +33,7 @@ put_total-at-requires c =
     let i = l.invariant in
     let here = c.loop-j-test.true in
     let found = found_is i.0 c.in-Some.code (subst (CodeFound i.0) c.in-Some.is i.1) in
-    (found.1, omega (arith, i.2.size, i.2.short, c.requires.1, c.requires.0.few, length-map ws (λ w. w.code)))
+    (found.1, omega (arith, i.2.size, i.2.short, c.requires.few, length-map ws (λ w. w.code)))
 
 pub loop-j-preserved : goal.loop-j-preserved
 loop-j-preserved c =
@@ -48,7 +48,7 @@ loop-j-preserved c =
     let next = lowest_code code no_code (codes_in ws) in (
       next,
       c.next_code-next-in-Some.ensures,
-      going_more (codes_in ws) (tonnes_in ws) (values_in ws) out l.out p.new.out code l.at l.j c.requires.0
+      going_more (codes_in ws) (tonnes_in ws) (values_in ws) out l.out p.new.out code l.at l.j c.requires
           (subst (λ x. RoomTo (codes_in ws) out l.out x l.at l.j) (sym found.0) i.2)
           (omega (arith, c.loop-j-test.true, length-map ws (λ w. w.code))) u.result u.ensures p.result p.ensures next refl,
       λ lines h. listed_more lines (codes_in ws) (tonnes_in ws) (values_in ws) h out l.out code l.at l.j

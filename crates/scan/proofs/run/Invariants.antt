@@ -2,10 +2,11 @@
 use Rattle.scan.proofs.Running.{Running}
 use Prim.Native.Nat.{◌+◌, ◌*◌, ◌-◌}
 use lib.ListN.{length}
+use Rattle.std.specs.List.{concat}
 use Rattle.scan.proofs.run.Given as goal
 
 abbrev pub invariant-loop-failed : goal.invariant-loop-failed
-invariant-loop-failed l = Running l.reference l.pattern.values.now l.pattern.rows.now l.pattern.count l.answer l.g l.from l.place l.trials
+invariant-loop-failed l = Running l.reference l.pattern.values.now (concat l.pattern.rows.now) (length l.pattern.rows.now) l.answer l.g l.from l.place l.trials
 
 abbrev pub decreases-loop-failed : goal.decreases-loop-failed
-decreases-loop-failed l = 21 * (length l.reference - l.place) + (l.pattern.count - l.g)
+decreases-loop-failed l = 21 * (length l.reference - l.place) + (length l.pattern.rows.now - l.g)

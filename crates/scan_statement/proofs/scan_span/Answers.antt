@@ -3,11 +3,10 @@ use mathlib.Core.List.{List}
 use mathlib.Core.Path.{◌≡◌, refl, sym, subst}
 use Prim.Native.Nat.{ℕ, ◌-◌}
 use native.Mathlib.Omega.{arith}
-use lib.ListN.{length, take, length-replicate}
+use lib.ListN.{length, take}
 use Rattle.std.specs.Prelude.{Ok}
 use Rattle.std.proofs.lemmas.Result.{err_from_is_err_and}
 use lib.Seq.{length-take-le}
-use borrow.Author.Rules.{rules}
 use Rattle.base.specs.Current.{current}
 use Rattle.encoding.specs.BufferLaws.{StoreGood}
 use Rattle.encoding.specs.Buffers.{numbers_in}
@@ -42,12 +41,6 @@ pattern_rows-requires c =
       bytes = c.requires.referred.scannable.bytes;
       searched = _;
       pattern = c.requires.referred.scannable.pattern;
-      buffers =
-          record {
-            strings = c.requires.scan_lent.twenty_strings;
-            lines = length-replicate {A = ℕ} 240 0;
-            places = length-replicate {A = ℕ} 20 0;
-          };
     }
 
 -- the reference stands at the front of its buffer
@@ -71,7 +64,7 @@ all-by c e =
     let put = c.pattern_rows.new in
     subst (λ (r : Completion). AllBy r a.table.now put.values put.rows put.names a.s.pattern
     (pattern_in current (memory_in a.store.now a.state.now) (patterns_meaning a.table.now a.s.pattern)))
-    e c.pattern_rows.ensures.put
+    e c.pattern_rows.ensures
 
 findable : (c : After-pattern_rows) {notes : ℕ} → c.pattern_rows.result ≡ Ok notes
     → (let a = c.args in
@@ -90,7 +83,6 @@ findable c e =
           copied_reference a.store.now a.at r.scannable.ready.strings r.between a.s.direction _ (copy c)
           c.copy_reference.ensures;
       put = all-by c e;
-      places = c.pattern_rows.ensures.buffers.places;
     }
 
 pub keep_fillers-requires : goal.keep_fillers-requires
@@ -99,7 +91,7 @@ keep_fillers-requires c =
       bytes = c.requires.referred.scannable.bytes;
       inside = c.requires.referred.scannable.pattern.inside;
       source = c.requires.referred.scannable.ready.strings;
-      good = c.requires.scan_lent.good;
+      good = c.requires.kept_good;
     }
 
 pub slice_bounds-reference-end : goal.slice_bounds-reference-end
@@ -112,10 +104,10 @@ pub slice_bounds-find_split-end : goal.slice_bounds-find_split-end
 slice_bounds-find_split-end c = sym (copy-prefix (goal.at.slice_bounds-find_split-end c).After-pattern_rows)
 
 pub slice_bounds-find_split-end-2 : goal.slice_bounds-find_split-end-2
-slice_bounds-find_split-end-2 c = sym c.pattern_rows.ensures.buffers.lines
+slice_bounds-find_split-end-2 c = sym c.pattern_rows.array_long
 
 pub slice_bounds-find_split-end-3 : goal.slice_bounds-find_split-end-3
-slice_bounds-find_split-end-3 c = sym c.pattern_rows.ensures.buffers.places
+slice_bounds-find_split-end-3 c = sym c.pattern_rows.array_long2
 
 pub find_split-requires : goal.find_split-requires
 find_split-requires c = findable_searchable (findable (goal.at.find_split-requires c).After-pattern_rows c.in_ok-notes.was)
@@ -128,16 +120,16 @@ returns-then-not-find_split c =
             missed_scans q (replacement_meaning c.args.table.now c.args.s.replacement) c.find_split.ensures.stays
             (finds_as c.find_split.ensures c.if-not-find_split.true q.put.rows_are);
       };
-      scan_lent_2 = record { twenty_strings = c.pattern_rows.ensures.buffers.strings; good = c.keep_fillers.ensures.good };
+      kept_stays = c.keep_fillers.ensures.good;
     }
+
+pub slice_bounds-replace_pieces-end : goal.slice_bounds-replace_pieces-end
+slice_bounds-replace_pieces-end c =
+    omega (arith, c.pattern_rows.array_long)
 
 pub slice_bounds-replace_pieces-end-2 : goal.slice_bounds-replace_pieces-end-2
 slice_bounds-replace_pieces-end-2 c =
-    omega (arith, c.pattern_rows.ensures.buffers.strings)
-
-pub slice_bounds-replace_pieces-end-3 : goal.slice_bounds-replace_pieces-end-3
-slice_bounds-replace_pieces-end-3 c =
-    sym (length-take-le 1024 c.pattern_rows.new.values (omega (arith, c.pattern_rows.ensures.buffers.strings)))
+    sym (length-take-le 1024 c.pattern_rows.new.values (omega (arith, c.pattern_rows.array_long)))
 
 pub replace_pieces-requires : goal.replace_pieces-requires
 replace_pieces-requires c =
@@ -152,7 +144,7 @@ replace_pieces-requires c =
         counting = found_counting q found;
         inside = pieces_inside q stays found;
       };
-      out_len = length-take-le 1024 c.pattern_rows.new.values (omega (arith, c.pattern_rows.ensures.buffers.strings));
+      out_len = length-take-le 1024 c.pattern_rows.new.values (omega (arith, c.pattern_rows.array_long));
     }
 
 -- what the replacement came to
@@ -196,7 +188,7 @@ returns-in-Ok c =
             replaced_scans q c.find_split.ensures.stays (finds_as c.find_split.ensures c.if-not-find_split.false q.put.rows_are)
             c.args.s.replacement (leaves (goal.at.returns-in-Ok c).After-replace_pieces c.in-Ok.is);
       };
-      scan_lent_2 = record { twenty_strings = search rules; good = c.keep_fillers.ensures.good };
+      kept_stays = c.keep_fillers.ensures.good;
     }
 
 pub returns-in-Err : goal.returns-in-Err
@@ -208,7 +200,7 @@ returns-in-Err c =
             c.args.s.replacement c.in-Err.stop (leaves (goal.at.returns-in-Err c).After-replace_pieces c.in-Err.is)
             c.keep_fillers.ensures c.copy_fillers.ensures;
       };
-      scan_lent_2 = record { twenty_strings = search rules; good = c.keep_fillers.ensures.good };
+      kept_stays = c.keep_fillers.ensures.good;
     }
 
 pub returns-in_err-notes : goal.returns-in_err-notes
@@ -226,5 +218,5 @@ returns-in_err-notes c =
               (stop_number c.in_err-notes.field-0.0) (all-by (goal.at.returns-in_err-notes c).After-pattern_rows c.in_err-notes.was),
         );
       };
-      scan_lent_2 = record { twenty_strings = c.pattern_rows.ensures.buffers.strings; good = c.requires.scan_lent.good };
+      kept_stays = c.requires.kept_good;
     })

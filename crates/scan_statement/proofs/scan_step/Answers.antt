@@ -4,7 +4,8 @@ use Rattle.std.specs.Prelude as std
 use Rattle.std.proofs.lemmas.Result.{err_from_is_err_and}
 use Rattle.evaluator.specs.Memory.{memory_in}
 use Rattle.machine.specs.Scanning.{searched_in}
-use Rattle.decoder.specs.Meaning.{direction_meaning, part_meaning}
+use Rattle.decoder.specs.Meaning.{part_meaning}
+use Rattle.encoding.specs.Meaning.{direction_meaning}
 use Rattle.effects.specs.References.{Refers}
 use Rattle.effects.specs.declared.Span.{Span}
 use Rattle.values.specs.Stops.{stop_number}
@@ -28,7 +29,7 @@ pub scan_span-requires : goal.scan_span-requires
 scan_span-requires c =
     let found = refers (goal.at.scan_span-requires c).After-reference_ends c.in_ok-at.was in record {
       referred = record { scannable = c.requires.scannable; names = found.names; between = found.between };
-      scan_lent = c.requires.scan_lent;
+      kept_good = c.requires.kept_good;
     }
 
 pub returns : goal.returns
@@ -40,7 +41,7 @@ returns c =
             subst (ScanDone c.scan_span.result a.store.now c.scan_span.new.store a.state.now c.scan_span.new.answer)
             (sym (scanning_rest a.table.now a.store.now a.state.now a.s c.in_ok-at.at found.work)) c.scan_span.ensures.scan_leaves.scans;
       };
-      scan_lent_2 = c.scan_span.ensures.scan_lent_2;
+      kept_stays = c.scan_span.ensures.kept_stays;
     }
 
 pub returns-in_err-at : goal.returns-in_err-at
@@ -53,5 +54,5 @@ returns-in_err-at c =
       scan_leaves = record {
         scans = (refl, scanning_stops a.table.now a.store.now a.state.now a.s (stop_number why) (refers (goal.at.returns-in_err-at c).After-reference_ends c.in_err-at.was));
       };
-      scan_lent_2 = c.requires.scan_lent;
+      kept_stays = c.requires.kept_good;
     })

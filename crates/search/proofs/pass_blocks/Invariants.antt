@@ -4,7 +4,7 @@ use Prim.Native.Nat.{◌-◌}
 use Rattle.search.proofs.pass_blocks.Given as goal
 
 abbrev pub invariant-loop-k : goal.invariant-loop-k
-invariant-loop-k g l = Without l.text l.first l.last l.span l.places l.from l.k
+invariant-loop-k g l = Without l.text l.first l.second l.span l.places l.from l.k
 
 abbrev pub decreases-loop-k : goal.decreases-loop-k
 decreases-loop-k g l = l.places - l.k

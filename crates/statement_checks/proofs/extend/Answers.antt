@@ -1,16 +1,17 @@
 -- `extend` puts the parts of extending the environment together.
 use mathlib.Core.Path.{refl}
+use native.Mathlib.Omega.{arith}
 use Rattle.symbols.specs.Entries.{purpose_meaning}
 use Rattle.symbols.specs.Environment.{labels_in, routines_in}
 use Rattle.statement_checks.proofs.extend.Goals as goal
 
 pub list_names-requires : goal.list_names-requires
 unfolding purpose_meaning
-list_names-requires c = c.requires.strings
+list_names-requires c = (omega arith, c.requires.strings)
 
 pub list_names-requires-2 : goal.list_names-requires-2
 unfolding purpose_meaning
-list_names-requires-2 c = c.requires.numbers
+list_names-requires-2 c = (omega arith, c.requires.numbers)
 
 pub returns : goal.returns
 unfolding purpose_meaning labels_in routines_in

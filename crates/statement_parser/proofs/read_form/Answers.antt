@@ -7,11 +7,11 @@ use lib.ListN.{drop}
 use Rattle.base.specs.Current.{current}
 use Rattle.branch_parser.specs.Places.{is_number_known}
 use Rattle.encoding.specs.Kinds.{finish_kind, return_kind}
-use Rattle.encoding.specs.Table.{statement_row, elements_of, items_of, direction_number, no_cell}
+use Rattle.encoding.specs.Table.{statement_row, elements_of, items_of, no_cell}
 use Rattle.syntax.specs.Forms.{form_of}
 use Rattle.syntax.specs.Keywords.{StatementKind, REPLACEMENT, NUMBER, PROGRAM, END, GOTO, EXIT, IF, SCAN, BACKSCAN, READ, WRITE, PRINT}
 use Rattle.syntax.specs.Keywords.{ROUTINE, EXECUTE, ENDROUTINE, RETURN, UNKNOWN}
-use Rattle.syntax.specs.Program.{forward, backward, finish, return}
+use Rattle.syntax.specs.Program.{finish, return}
 use Rattle.symbols.specs.Environment.{places_in}
 use Rattle.symbols.specs.declared.Mentioned.{Mentioned}
 use Rattle.numeric_parser.specs.Operands.{ReaderReady}
@@ -122,16 +122,16 @@ returns-in-If c =
     c.if_form.result (c.if_form.ensures c.args.table.now)
 
 pub returns-in-Scan : goal.returns-in-Scan
-unfolding form_of direction_number
+unfolding form_of
 returns-in-Scan c =
     of_kind (goal.at.returns-in-Scan c).After-skip-d SCAN (ap kind_of c.in-Scan.is)
-    c.scan_form.result (c.scan_form.ensures forward refl)
+    c.scan_form.result c.scan_form.ensures
 
 pub returns-in-Backscan : goal.returns-in-Backscan
-unfolding form_of direction_number
+unfolding form_of
 returns-in-Backscan c =
     of_kind (goal.at.returns-in-Backscan c).After-skip-d BACKSCAN (ap kind_of c.in-Backscan.is)
-    c.scan_form-in-Backscan.result (c.scan_form-in-Backscan.ensures backward refl)
+    c.scan_form-in-Backscan.result c.scan_form-in-Backscan.ensures
 
 pub returns-in-Read : goal.returns-in-Read
 unfolding form_of

@@ -1,20 +1,21 @@
 -- `statement_parser::read_statement` notes the label, if there is one, and reads the statement.
 use mathlib.Core.Path.{sym, ◌∙◌}
+use Rattle.std.proofs.lemmas.Bool.{not-true, not-false}
 use Rattle.statement_parser.specs.Labels.{statement_off, statement_plain, statement_unnamed, statement_named}
 use Rattle.statement_parser.specs.Labels.{form_unlabelled, form-labelled, starts_labelled}
 use Rattle.statement_parser.specs.StageLaws.{form-same}
 use Rattle.statement_parser.proofs.read_statement.Goals as goal
 
-pub returns-then-not-whole : goal.returns-then-not-whole
-returns-then-not-whole c =
+pub returns-then-not-packed : goal.returns-then-not-packed
+returns-then-not-packed c =
     let a = c.args in
-    λ label_bytes _. record { answer = statement_off a.known.now a.text.now label_bytes c.if-not-whole.true }
+    λ label_bytes _. record { answer = statement_off a.known.now a.text.now label_bytes (not-true _ c.if-not-packed.true) }
 
-pub returns-then-label-eq0 : goal.returns-then-label-eq0
-returns-then-label-eq0 c =
+pub returns-then-packed-eq0 : goal.returns-then-packed-eq0
+returns-then-packed-eq0 c =
     λ label_bytes w.
     form-same
-    (statement_plain c.args.known.now c.args.text.now label_bytes w c.if-not-whole.false c.if-label-eq0.true)
+    (statement_plain c.args.known.now c.args.text.now label_bytes w (not-false _ c.if-not-packed.false) c.if-packed-eq0.true)
     (form_unlabelled c.read_form.result c.read_form.ensures)
 
 pub returns-then-not-is_name : goal.returns-then-not-is_name
@@ -23,7 +24,7 @@ returns-then-not-is_name c =
     λ label_bytes w.
     record {
       answer =
-          statement_unnamed a.known.now a.text.now label_bytes a.whole w c.if-label-eq0.false
+          statement_unnamed a.known.now a.text.now label_bytes a.packed.whole w c.if-packed-eq0.false
           (sym c.is_name.ensures ∙ c.if-not-is_name.true);
     }
 
@@ -34,7 +35,7 @@ pub returns : goal.returns
 returns c =
     λ label_bytes w.
     form-same
-    (statement_named c.args.known.now c.args.text.now label_bytes w c.if-not-whole.false
-    c.if-label-eq0.false (sym c.is_name.ensures ∙ c.if-not-is_name.false))
+    (statement_named c.args.known.now c.args.text.now label_bytes w (not-false _ c.if-not-packed.false)
+    c.if-packed-eq0.false (sym c.is_name.ensures ∙ c.if-not-is_name.false))
     (form-labelled c.note-d.ensures c.read_form-2.result
     c.read_form-2.ensures)

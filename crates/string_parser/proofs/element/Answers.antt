@@ -4,7 +4,7 @@ use Rattle.base.specs.ListLaws.{begins_room}
 use Rattle.base.specs.Text.{bytes}
 use Rattle.symbols.specs.Entries.{role_of}
 use Rattle.symbols.specs.Environment.{places_in}
-use Rattle.numeric_parser.specs.OperandLaws.{ready_moved}
+use Rattle.numeric_parser.specs.OperandLaws.{word_passed, word_none, word_ready}
 use Rattle.string_parser.specs.RowLaws.{one_written, element_literal, element_text, element_part}
 use Rattle.string_parser.proofs.element.Goals as goal
 
@@ -12,7 +12,7 @@ pub literal-requires : goal.literal-requires
 literal-requires c =
     let one = begins_room (34 ∷ []) (drop c.args.c.at c.args.text.now) (sym c.if-stands_at.ensures) in
     let size = length-drop c.args.c.at c.args.text.now in
-    record { at_in_bounds = (omega arith, c.requires.text_size); elements_le_far_enough = (omega arith, omega arith) }
+    record { at_in_bounds = (omega arith, c.requires.text_size); counts_in_bounds = (omega arith, omega arith) }
 
 pub returns-then-stands_at : goal.returns-then-stands_at
 returns-then-stands_at c =
@@ -22,25 +22,25 @@ returns-then-stands_at c =
 
 pub text_call-requires : goal.text_call-requires
 unfolding bytes
-text_call-requires c =
-    ready_moved (bytes "STRING(") c.requires c.skip.ensures (sym c.if-begins_at.ensures)
+text_call-requires c = word_ready c.args.text.now (bytes "STRING(") c.args.c c.requires c.in-Some.ensures
 
 pub returns-in_err-cell : goal.returns-in_err-cell
 unfolding bytes
 returns-in_err-cell c =
     let a = c.args in
+    let call = word_passed a.text.now (bytes "STRING(") a.c c.in-Some.ensures in
     one_written None (c.from_residual.ensures, refl)
-    (element_text (places_in a.known.now) (role_of a.role) c.requires (sym c.if-stands_at.ensures) None
-    c.skip.ensures (sym c.if-begins_at.ensures) c.in_err-cell.ensures)
+    (element_text (places_in a.known.now) (role_of a.role) c.requires (sym c.if-stands_at.ensures) None call.1 call.0 c.in_err-cell.ensures)
 
-pub returns-then-begins_at : goal.returns-then-begins_at
+pub returns-in-Some : goal.returns-in-Some
 unfolding bytes
-returns-then-begins_at c =
+returns-in-Some c =
     let a = c.args in
+    let call = word_passed a.text.now (bytes "STRING(") a.c c.in-Some.ensures in
     let q = c.put.ensures in
     one_written (Some (c.in_ok-cell.cell, c.in_ok-cell.d)) (ap Some q.0, q.1)
     (element_text (places_in a.known.now) (role_of a.role) c.requires (sym c.if-stands_at.ensures)
-    (Some (c.in_ok-cell.cell, c.in_ok-cell.d)) c.skip.ensures (sym c.if-begins_at.ensures) c.in_ok-cell.ensures)
+    (Some (c.in_ok-cell.cell, c.in_ok-cell.d)) call.1 call.0 c.in_ok-cell.ensures)
 
 pub returns-in_err-cell-2 : goal.returns-in_err-cell-2
 unfolding bytes
@@ -48,7 +48,7 @@ returns-in_err-cell-2 c =
     let a = c.args in
     one_written None (c.from_residual-in_err-cell-2.ensures, refl)
     (element_part (places_in a.known.now) (role_of a.role) c.requires (sym c.if-stands_at.ensures) None
-    (sym c.if-begins_at.ensures) c.in_err-cell-2.ensures)
+    (word_none a.text.now (bytes "STRING(") a.c c.in_default.ensures) c.in_err-cell-2.ensures)
 
 pub returns : goal.returns
 unfolding bytes
@@ -57,4 +57,4 @@ returns c =
     let q = c.put-2.ensures in
     one_written (Some (c.in_ok-cell-2.cell, c.in_ok-cell-2.d)) (ap Some q.0, q.1)
     (element_part (places_in a.known.now) (role_of a.role) c.requires (sym c.if-stands_at.ensures)
-    (Some (c.in_ok-cell-2.cell, c.in_ok-cell-2.d)) (sym c.if-begins_at.ensures) c.in_ok-cell-2.ensures)
+    (Some (c.in_ok-cell-2.cell, c.in_ok-cell-2.d)) (word_none a.text.now (bytes "STRING(") a.c c.in_default.ensures) c.in_ok-cell-2.ensures)

@@ -6,10 +6,10 @@ use Rattle.string_parser.specs.Elements.{shown, read_one}
 use Rattle.string_parser.specs.RowLaws.{RowPassing}
 use Rattle.string_parser.proofs.more.Given as goal
 
-abbrev pub invariant-loop-elements : goal.invariant-loop-elements
-invariant-loop-elements l =
+abbrev pub invariant-loop-e : goal.invariant-loop-e
+invariant-loop-e l =
     RowPassing (shown l.elements) (read_one l.elements (places_in l.known)) l.text l.initial.table l.initial.mentioned l.initial.d
     l.table l.mentioned l.d
 
-abbrev pub decreases-loop-elements : goal.decreases-loop-elements
-decreases-loop-elements l = length l.text - l.d.at
+abbrev pub decreases-loop-e : goal.decreases-loop-e
+decreases-loop-e l = length l.text - l.d.at

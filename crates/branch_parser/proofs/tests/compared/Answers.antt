@@ -32,6 +32,7 @@ returns c =
     λ x e.
     record {
       answer =
-          compared-got (places_in a.known.now) x a.c c.in_ok-sign.ensures.answer c.skip.ensures a.left c.in_ok-right.right e
+          compared-got (places_in a.known.now) x a.c c.in_ok-sign.ensures.answer c.skip.ensures a.left c.in_ok-right.right
+          c.number.ensures e
           c.in_ok-right.ensures.answer;
     }

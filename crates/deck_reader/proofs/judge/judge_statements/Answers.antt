@@ -12,14 +12,14 @@ use Rattle.deck_reader.specs.Verdicts.{Verdict}
 use Rattle.deck_reader.proofs.judge.judge_statements.Goals as goal
 
 pub loop-from-init : goal.loop-from-init
-loop-from-init c = (judging_none c.requires.symbols_hold, search rules)
+loop-from-init c = (judging_none c.requires, search rules)
 
 pub gather-e-requires : goal.gather-e-requires
 gather-e-requires c =
-    record { start = c.loop-from-test.true; small = c.requires.deck_len_bound; size = c.loop-from.invariant.1 }
+    record { start = c.loop-from-test.true; small = c.args.deck.short; size = c.loop-from.invariant.1 }
 
 pub judge_gathered-judged-requires : goal.judge_gathered-judged-requires
-judge_gathered-judged-requires c = entered c.gather-e.ensures (judging_held c.loop-from.invariant.0) c.requires.deck_len_bound
+judge_gathered-judged-requires c = entered c.gather-e.ensures (judging_held c.loop-from.invariant.0) c.args.deck.short
 
 pub returns-in_err-map_err : goal.returns-in_err-map_err
 returns-in_err-map_err c =
@@ -29,14 +29,14 @@ returns-in_err-map_err c =
     let number : judged_number c.judge_gathered-judged.result ≡ refusal_number e.refusal = ap judged_number was in
     let p = err_from_is_err_and c.from_residual.result c.from_residual.ensures.1 in
     rw (p.1, p.2)
-    (subst (λ (v : Verdict). StatementsJudged c.args.deck.now v c.judge_gathered-judged.new.symbols) (λ t. record { number = number t; card = at t })
+    (subst (λ (v : Verdict). StatementsJudged c.args.deck.bytes.now v c.judge_gathered-judged.new.symbols) (λ t. record { number = number t; card = at t })
     (judging_refused c.loop-from.invariant.0 (entry-judged c.gather-e.ensures c.judge_gathered-judged.ensures)
     (λ z. refusal_number_some e.refusal (sym number ∙ z)) (omega (arith, c.loop-from-test.true))))
 
 pub overflow_add-card : goal.overflow_add-card
 overflow_add-card c =
     let g = c.gather-e.ensures in
-    omega (arith, g.paced, g.inside, c.loop-from.invariant.0.few, c.requires.deck_len_bound)
+    omega (arith, g.paced, g.inside, c.loop-from.invariant.0.few, c.args.deck.short)
 
 pub loop-from-smaller : goal.loop-from-smaller
 loop-from-smaller c =
@@ -50,4 +50,4 @@ loop-from-preserved c =
 
 pub returns : goal.returns
 returns c =
-    judging_ends c.loop-from.invariant.0 c.requires.deck_len_bound (omega (arith, c.loop-from-test.false)) c.ended.ensures
+    judging_ends c.loop-from.invariant.0 c.args.deck.short (omega (arith, c.loop-from-test.false)) c.ended.ensures

@@ -8,8 +8,8 @@ use Rattle.deck_reader.proofs.judge.judge_statements.Given as goal
 
 abbrev pub invariant-loop-from : goal.invariant-loop-from
 invariant-loop-from l =
-    DeckJudging l.deck l.symbols l.from l.card × (length l.text ≡ longest_text)
+    DeckJudging l.deck.bytes.now l.symbols l.from l.card × (length l.text ≡ longest_text)
 
 abbrev pub decreases-loop-from : goal.decreases-loop-from
 decreases-loop-from l =
-    length l.deck + 1 - l.from
+    length l.deck.bytes.now + 1 - l.from

@@ -10,13 +10,12 @@ loop-p-init c = (refl, λ w. ongoing_none c.args.table.now w)
 
 pub write_entry-p-requires : goal.write_entry-p-requires
 write_entry-p-requires c =
-    let w = c.requires.deck_accepted in
-    let small = c.requires.deck_len_bound in
-    (ongoing_small (c.loop-p.invariant.1 w) w.fits c.loop-p-test.true small, c.loop-p-test.true, small)
+    let w = c.requires in
+    (ongoing_small (c.loop-p.invariant.1 w) w.fits c.loop-p-test.true c.args.deck.short, c.loop-p-test.true)
 
 pub loop-p-smaller : goal.loop-p-smaller
 loop-p-smaller c =
-    let w = c.requires.deck_accepted in
+    let w = c.requires in
     let i = c.loop-p.invariant in
     let m = ongoing_more (i.1 w) (names_kept w.names i.0) c.write_entry-p.ensures in omega (arith, m.1, (i.1 w).inside, m.0.inside)
 

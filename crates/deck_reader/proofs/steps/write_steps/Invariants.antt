@@ -9,8 +9,8 @@ use Rattle.deck_reader.proofs.steps.write_steps.Given as goal
 abbrev pub invariant-loop-p : goal.invariant-loop-p
 invariant-loop-p l =
     (l.known ≡ next_at l.initial.known l.known.next)
-    × ((w : DeckAccepted l.deck l.initial.known) → Ongoing l.deck l.initial.table w.whole l.p l.table)
+    × ((w : DeckAccepted l.deck.bytes.now l.initial.known) → Ongoing l.deck.bytes.now l.initial.table w.whole l.p l.table)
 
 abbrev pub decreases-loop-p : goal.decreases-loop-p
 decreases-loop-p l =
-    length l.deck + 1 - l.p.from
+    length l.deck.bytes.now + 1 - l.p.from

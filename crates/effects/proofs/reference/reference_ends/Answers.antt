@@ -7,7 +7,8 @@ use Rattle.syntax.specs.Program as Program
 use Rattle.machine.specs.Expressions.{length_in}
 use Rattle.machine.specs.Scanning.{searched_in}
 use Rattle.decoder.specs.Holds.{PartHolds}
-use Rattle.decoder.specs.Meaning.{direction_meaning, length_meaning, part_meaning}
+use Rattle.decoder.specs.Meaning.{length_meaning, part_meaning}
+use Rattle.encoding.specs.Meaning.{direction_meaning}
 use Rattle.decoder.specs.declared.Part.TheVariants.{Whole, First}
 use Rattle.effects.specs.ReferenceLaws.{first_refers, first_stops, whole_refers}
 use Rattle.effects.specs.References.{Refers, restricted_by}

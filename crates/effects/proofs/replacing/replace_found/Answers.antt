@@ -1,7 +1,7 @@
 -- `replacing::replace_found` meets its contract, in either direction.
 use mathlib.Core.Path.{ap}
 use Rattle.machine.specs.Scanning.{turned}
-use Rattle.decoder.specs.Meaning.{direction_meaning}
+use Rattle.encoding.specs.Meaning.{direction_meaning}
 use Rattle.effects.specs.Replacing.{stored_turned}
 use Rattle.effects.specs.ValuedLaws.{stored_as}
 use Rattle.effects.proofs.replacing.replace_found.Goals as goal

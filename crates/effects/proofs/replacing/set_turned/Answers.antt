@@ -1,5 +1,5 @@
 -- `replacing::set_turned` meets its contract: the value spelt is too long, or it is turned and stored, or the work stops.
-use Rattle.std.proofs.Common.{refl}
+use Rattle.std.proofs.Common.{refl, ap, List, ℕ, ◌++◌, drop}
 use Rattle.std.proofs.lemmas.Result.{err_from_is_err_and}
 use Rattle.encoding.specs.Buffers.{numbers_in}
 use Rattle.evaluator.specs.Laws.{string-is, string_stops}
@@ -23,7 +23,9 @@ returns c =
     record {
       leaves =
           kept_leaves (turned backward) c.set_between.result a.store.now c.set_between.new.store a.at.place a.at.from a.at.to _
-          (numbers_in a.state.now) spells (turned_spelt _ spells c.if-length-gt-LONGEST.false c.turn_first.ensures)
+          (numbers_in a.state.now) spells
+          (turned_spelt spells c.if-length-gt-LONGEST.false
+          (ap (λ (l : List ℕ). l ++ drop c.in_ok-length.length.value c.string_value.new.out) c.reverse.ensures.after))
           c.set_between.ensures;
     }
 

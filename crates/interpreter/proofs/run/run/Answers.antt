@@ -14,9 +14,8 @@ pub returns-then-count-eq0 : goal.returns-then-count-eq0
 returns-then-count-eq0 c =
     let a = c.args in
     let none : a.count ≡ 0 = omega (arith, c.if-count-eq0.true) in
-    rw c.new.ensures
-    (run-kept (λ more. absurd (omega (arith, none)))
-    (steps_none a.table.now a.input.now (buffers a.store.now a.state.now a.output.now) a.count none))
+    run-kept (λ more. absurd (omega (arith, none)))
+    (steps_none a.table.now a.input.now (buffers a.store.now a.state.now a.output.now) a.count none)
 
 pub repeat-requires : goal.repeat-requires
 repeat-requires c =
@@ -33,10 +32,9 @@ returns-in-Err c =
     let a = c.args in
     let b = buffers a.store.now a.state.now a.output.now in
     let fit = c.check_fit in
-    let n = refusal_number c.in-Err.refusal in
-    let refused : 0 < n = refusal_some c.in-Err.refusal in
+    let refusal = c.in-Err.refusal in
     let is = sym (ap checked_number c.in-Err.is) ∙ fit.ensures in
     let some : 0 < a.count = omega (arith, c.if-count-eq0.false) in
-    rw (c.new-in-Err.ensures, c.number.ensures)
-    (run-kept (λ _. (search rules))
-    (unfit_run a.table.now a.input.now b n is refused (unfit_answers a.table.now a.input.now b n is refused refl refl) a.count some))
+    run-kept (λ _. (search rules))
+    (unfit_run a.table.now a.input.now b refusal
+    (unfit_answers a.table.now a.input.now b (refusal_number refusal) is (refusal_some refusal) refl refl) a.count some)

@@ -2,4 +2,4 @@
 use Rattle.interpreter.proofs.run.strigol_run.Goals as goal
 
 pub returns : goal.returns
-returns c = rw c.numbers.ensures c.run-ran.ensures
+returns c = rw (c.numbers.ensures, c.number.ensures) c.run-ran.ensures

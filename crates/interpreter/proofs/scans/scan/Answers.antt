@@ -27,9 +27,8 @@ returns c =
     let went = (goal.at.returns c).After-scan_step in
     let a = c.args in
     let ends = scanned went c.in_ok-split.was in record {
-      by_index = λ input output p stands.
-          rw c.go_to.ensures (record { works = scan_works stands a.table.now a.s ends c.choose.ensures });
-      scan_lent_2 = c.scan_step.ensures.scan_lent_2;
+      does_scan = λ input output p stands. rw c.take_branch.ensures (record { works = scan_works stands a.table.now a.s ends });
+      kept_stays = c.scan_step.ensures.kept_stays;
     }
 
 pub returns-in_err-split : goal.returns-in_err-split
@@ -40,11 +39,11 @@ returns-in_err-split c =
     let p = err_from_is_err_and c.from_residual.result c.from_residual.ensures.1 in
     rw (p.1, p.2)
     (record {
-      by_index = λ input output q stands.
+      does_scan = λ input output q stands.
           record {
             works =
                 scan_stops input (buffers a.store.now a.state.now output) a.table.now a.s c.scan_step.new.store
                 (stop_number c.in_err-split.field-0.0) halted.0 halted.1;
           };
-      scan_lent_2 = c.scan_step.ensures.scan_lent_2;
+      kept_stays = c.scan_step.ensures.kept_stays;
     })

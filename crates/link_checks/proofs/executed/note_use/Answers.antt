@@ -1,38 +1,40 @@
 -- `link_checks::executed::note_use` notes row by row. The invariant: the pairs of the rows passed.
-use Rattle.std.proofs.Common.{Bool, List, ◌+◌, length, get_or, subst, sym, ap, ◌∙◌, arith}
+use Rattle.std.proofs.Common.{Bool, ℕ, List, ◌≡◌, ◌+◌, ◌&&◌, ◌||◌, length, length-set, get_or, subst, sym, ap, ◌∙◌, arith}
 use Rattle.symbols.specs.declared.known.Routine.{Routine}
-use Rattle.link_checks.proofs.Pairings.{rows_pairs, up_to, to_start, use_row, use_other, use_whole}
-use Rattle.link_checks.specs.Pairs.{no_routine, routine_count, Paired}
+use Rattle.link_checks.proofs.Pairings.{has_key_in, row_noted, row_passed}
+use Rattle.link_checks.specs.Pairs.{no_routine, routine_count, pair_in, has_key, by_use}
+use Rattle.link_checks.specs.declared.executed.TheConstants.{PLACES}
 use Rattle.link_checks.proofs.executed.note_use.Goals.{then-routine-scope, else-routine-scope}
 use Rattle.link_checks.proofs.executed.note_use.Goals as goal
-
-pub loop-i-init : goal.loop-i-init
-loop-i-init c =
-    let a = c.args in
-    to_start (routine_count a.known.now) (rows_pairs a.known.now a.scope a.key) a.pairs.now
 
 pub loop-i-preserved : goal.loop-i-preserved
 loop-i-preserved c =
     let a = c.args in
     let l = c.loop-i in
     let e = c.deref-routine-items.ensures in
-    let count = routine_count a.known.now in
     let key = ap (λ (routines : List Routine). (get_or routines l.i no_routine).key) (sym e.0) in
-    let Next : List Bool → Type 0 = λ pairs. Paired count a.pairs.now pairs (up_to (rows_pairs a.known.now a.scope a.key) (l.i + 1)) in
+    let Next : List (List Bool) → Type 0 =
+    λ pairs.
+    ((p q : ℕ) → pair_in pairs p q ≡ (pair_in a.pairs.now p q || (has_key_in a.known.now (l.i + 1) a.scope p && has_key a.known.now a.key q)))
+    × (length pairs ≡ PLACES) in
     elim c.if-routine-scope.branch [
       | then-routine-scope w ↦
-          subst Next (sym w.pairs-is)
-          (use_row count a.known.now a.scope a.key a.pairs.now l.pairs w.note_row.new.pairs l.i l.invariant (key ∙ w.if-routine-scope.true)
-          w.note_row.ensures)
+          subst Next (sym w.pairs-is) (
+            row_noted a.known.now a.scope a.key a.pairs.now l.pairs l.i l.invariant.0 w.note_row.new.row (omega arith)
+                (key ∙ w.if-routine-scope.true) w.note_row.ensures,
+            length-set l.pairs l.i w.note_row.new.row ∙ l.invariant.1,
+          )
       | else-routine-scope w ↦
-          subst Next (sym w.pairs-is)
-          (use_other count a.known.now a.scope a.key a.pairs.now l.pairs l.i l.invariant (λ same. w.if-routine-scope.false (sym key ∙ same)))
+          subst Next (sym w.pairs-is) (
+            row_passed a.known.now a.scope a.key a.pairs.now l.pairs l.i l.invariant.0 (λ same. w.if-routine-scope.false (sym key ∙ same)),
+            l.invariant.1,
+          )
     ]
 
 pub returns : goal.returns
+unfolding has_key by_use
 returns c =
     let a = c.args in
     let l = c.loop-i in
-    let e = c.deref-routine-items.ensures in
-    use_whole (routine_count a.known.now) a.known.now a.scope a.key a.pairs.now l.pairs l.i l.invariant
-    (omega (arith, ap length e.0))
+    let all : l.i ≡ routine_count a.known.now = omega (arith, ap length c.deref-routine-items.ensures.0) in
+    λ p q. l.invariant.0 p q ∙ ap (λ n. pair_in a.pairs.now p q || (has_key_in a.known.now n a.scope p && has_key a.known.now a.key q)) all

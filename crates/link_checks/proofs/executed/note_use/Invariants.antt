@@ -1,7 +1,11 @@
 -- `link_checks::executed::note_use` notes row by row. The invariant: the pairs of the rows passed.
-use Rattle.link_checks.proofs.Pairings.{rows_pairs, up_to}
-use Rattle.link_checks.specs.Pairs.{routine_count, Paired}
+use Rattle.std.proofs.Common.{◌≡◌, ◌||◌, ◌&&◌, ℕ, length}
+use Rattle.link_checks.proofs.Pairings.{has_key_in}
+use Rattle.link_checks.specs.Pairs.{pair_in, has_key}
+use Rattle.link_checks.specs.declared.executed.TheConstants.{PLACES}
 use Rattle.link_checks.proofs.executed.note_use.Given as goal
 
 abbrev pub invariant-loop-i : goal.invariant-loop-i
-invariant-loop-i l = Paired (routine_count l.known) l.initial.pairs l.pairs (up_to (rows_pairs l.known l.scope l.key) l.i)
+invariant-loop-i l =
+    ((a b : ℕ) → pair_in l.pairs a b ≡ (pair_in l.initial.pairs a b || (has_key_in l.known l.i l.scope a && has_key l.known l.key b)))
+    × (length l.pairs ≡ PLACES)

@@ -24,9 +24,7 @@ unfolding declared_key
 returns-in-Routine c =
     let a = c.args in
     let known = a.known.now in
-    let test = λ (r : Opened.Routine). eqb r.key a.key in
-    any_from_yields_List test _ _ c.any-in-Routine.result c.any-in-Routine.ensures.ran (YieldsList-from_slice known.routines.items (cc))
-    (λ x b q k. search (rules, tests))
+    c.has_routine.ensures
     ∙ key_listed (λ (r : Opened.Routine). r.key) a.key known.routines.items
     ∙ sym (declared_is known a.key a.purpose ∙ rw c.in-Routine.is)
 

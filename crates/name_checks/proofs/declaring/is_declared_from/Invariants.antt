@@ -8,5 +8,5 @@ use Rattle.name_checks.proofs.declaring.is_declared_from.Given as goal
 
 abbrev pub invariant-loop-i : goal.invariant-loop-i
 invariant-loop-i l =
-    let left = any_from (same_mention (key_mention l.key l.purpose)) declared_by l.mentioned l.met in
+    let left = any_from (same_mention (key_mention l.key l.purpose)) declared_by l.entries in
     left l.i ≡ left l.from

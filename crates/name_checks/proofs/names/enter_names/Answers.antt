@@ -1,42 +1,67 @@
 -- `names::enter_names` puts names behind those known. The invariant: those of the entries passed are.
-use Rattle.std.proofs.Common.{◌≡◌, ap, sym, ◌∙◌, arith, subst}
+use Rattle.std.proofs.Common.{[], ◌∷◌, ◌≡◌, ◌<◌, ap, sym, ◌∙◌, subst, length, length-append}
 use Rattle.std.specs.Bool.{beq}
-use Rattle.name_checks.specs.Names.{chosen_in, Enters}
-use Rattle.name_checks.specs.EnteringLaws.{entering_none, meeting_room, meeting_one, meeting_other}
-use Rattle.name_checks.proofs.names.enter_names.Goals.{then-is_declared-declared, else-is_declared-declared}
+use Rattle.symbols.specs.Entries.{entry}
+use Rattle.name_checks.specs.Names.{Enters}
+use Rattle.name_checks.specs.EnteringLaws.{chosen_to, entering_none, entering_room, entering_one, entering_other}
+use Rattle.name_checks.specs.Shown.{entry_count, entry_in}
+use Rattle.name_checks.specs.PairLaws.{entry_comes, entries_end}
+use Rattle.name_checks.proofs.names.enter_names.Goals.{In-Some}
 use Rattle.name_checks.proofs.names.enter_names.Goals as goal
 
-pub loop-i-init : goal.loop-i-init
-loop-i-init c =
+-- the entry that comes
+next : (c : In-Some)
+    → let l = c.loop-key in
+    (length l.yielded < entry_count c.args.entries)
+    × (entry c.in-Some.key.now c.in-Some.tag.now ≡ entry_in c.args.entries (length l.yielded))
+next c =
+    let l = c.loop-key in
+    let p = c.in-Some in
+    entry_comes c.args.entries c.into_iter-key-iterator.result (cc) (cc) l.yielded l.key-iterator l.yielded_by c.next.result c.next.new.self
+    (p.key, p.tag) p.is c.next.ensures.steps
+
+pub loop-key-init : goal.loop-key-init
+loop-key-init c =
     let a = c.args in
-    entering_none a.names.now a.mentioned.now a.met a.declared
+    entering_none a.names.now a.entries a.declared
 
 pub enter_name-requires : goal.enter_name-requires
 enter_name-requires c =
     let a = c.args in
-    let l = c.loop-i in
+    let l = c.loop-key in
+    let p = c.in-Some in
     let told = ap (λ t. beq t a.declared) (sym c.is_declared.ensures) in
-    meeting_room a.names.now a.mentioned.now a.met a.declared l.names l.outcome l.i l.invariant (told ∙ c.if-is_declared-declared.true) (omega arith)
-    c.requires.0
+    entering_room a.names.now a.entries a.declared l.names l.outcome (length l.yielded) l.invariant p.key.now p.tag.now
+    (next (goal.at.enter_name-requires c).In-Some) (told ∙ c.if-is_declared-declared.true) c.requires
 
-pub loop-i-preserved : goal.loop-i-preserved
-loop-i-preserved c =
+pub loop-key-preserved-then-is_declared-declared : goal.loop-key-preserved-then-is_declared-declared
+loop-key-preserved-then-is_declared-declared c =
     let a = c.args in
-    let l = c.loop-i in
+    let l = c.loop-key in
+    let p = c.in-Some in
     let told = ap (λ t. beq t a.declared) (sym c.is_declared.ensures) in
-    elim c.if-is_declared-declared.branch [
-      | then-is_declared-declared w ↦
-          rw (w.names-is, w.outcome-is ∙ w.and-outcome.ensures)
-          (meeting_one a.names.now a.mentioned.now a.met a.declared l.names l.outcome l.i l.invariant (told ∙ w.if-is_declared-declared.true)
-          w.enter_name.new.names w.enter_name.result (rw w.purpose.ensures at w.enter_name.ensures))
-      | else-is_declared-declared w ↦
-          rw (w.names-is, w.outcome-is)
-          (meeting_other a.names.now a.mentioned.now a.met a.declared l.names l.outcome l.i l.invariant (told ∙ w.if-is_declared-declared.false))
-    ]
+    rw (length-append l.yielded ((p.key, p.tag) ∷ []), c.and-outcome.ensures)
+    (entering_one a.names.now a.entries a.declared l.names l.outcome (length l.yielded) l.invariant p.key.now p.tag.now
+    (next (goal.at.loop-key-preserved-then-is_declared-declared c).In-Some) (told ∙ c.if-is_declared-declared.true) c.enter_name.new.names
+    c.enter_name.result (rw c.purpose.ensures at c.enter_name.ensures))
+
+pub loop-key-preserved : goal.loop-key-preserved
+loop-key-preserved c =
+    let a = c.args in
+    let l = c.loop-key in
+    let p = c.in-Some in
+    let told = ap (λ t. beq t a.declared) (sym c.is_declared.ensures) in
+    rw (length-append l.yielded ((p.key, p.tag) ∷ []))
+    (entering_other a.names.now a.entries a.declared l.names l.outcome (length l.yielded) l.invariant p.key.now p.tag.now
+    (next (goal.at.loop-key-preserved c).In-Some) (told ∙ c.if-is_declared-declared.false))
 
 pub returns : goal.returns
 returns c =
     let a = c.args in
-    let l = c.loop-i in
-    let all : l.i ≡ a.met = omega arith in
-    subst (λ i. Enters a.names.now (chosen_in a.declared a.mentioned.now i) l.names l.outcome) all l.invariant
+    let m = a.entries in
+    let l = c.loop-key in
+    let all =
+    entries_end m c.into_iter-key-iterator.result (cc) (cc) l.yielded l.key-iterator l.yielded_by c.next.result c.next.new.self c.in-None.is
+    c.next.ensures.steps
+    in
+    subst (λ i. Enters a.names.now (chosen_to a.names.now m a.declared i) l.names l.outcome) all l.invariant

@@ -6,4 +6,4 @@ use Rattle.name_checks.proofs.roles.has_clash.Given as goal
 
 abbrev pub invariant-loop-i : goal.invariant-loop-i
 invariant-loop-i l =
-    (clash_from l.mentioned l.met l.searched l.i ≡ clash_from l.mentioned l.met 0 0) × Unclashed l.mentioned l.i
+    (clash_from l.entries l.searched l.i ≡ clash_from l.entries 0 0) × Unclashed l.entries l.i

@@ -8,7 +8,7 @@ returns-then-answer-eq0 c =
 
 pub name_fillers-requires : goal.name_fillers-requires
 name_fillers-requires c =
-    nameable c.requires c.scan_into.ensures c.if-answer-eq0.false c.null_fillers.ensures
+    nameable c.requires c.scan_into.ensures c.if-answer-eq0.false c.told-names c.null_fillers.ensures
 
 pub returns : goal.returns
 returns c =

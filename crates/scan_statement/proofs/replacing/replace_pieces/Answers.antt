@@ -4,7 +4,7 @@ use Prim.Native.Nat.{ℕ, ◌-◌}
 use native.Mathlib.Omega.{arith}
 use Rattle.encoding.specs.BufferLaws.{good_short}
 use Rattle.decoder.specs.Holds.{ReplacementHolds}
-use Rattle.decoder.specs.Meaning.{direction_meaning}
+use Rattle.encoding.specs.Meaning.{direction_meaning}
 use Rattle.effects.specs.Laws.{stays_same}
 use Rattle.effects.specs.Replacing.{stored_turned}
 use Rattle.effects.specs.ReplacingLaws.{found_from, found_to}

@@ -1,8 +1,8 @@
 -- `valuing::put_element` meets its contract: each kind of element has its row.
-use mathlib.Core.Path.{sym, subst, ◌∙◌}
+use mathlib.Core.Path.{sym, subst}
 use native.Mathlib.Omega.{arith}
 use lib.IntN.{ℤ}
-use lib.ListN.{length-set, set}
+use lib.ListN.{set}
 use Rattle.base.specs.Current.{current}
 use Rattle.evaluator.specs.Memory.{memory_in}
 use Rattle.machine.specs.Scanning.{fixed_at, valued_in}
@@ -10,6 +10,7 @@ use Rattle.decoder.specs.Holds.{PatternHolds}
 use Rattle.decoder.specs.Meaning.{element_meaning, pattern_meaning}
 use Rattle.decoder.specs.declared.PatternElement.{PatternElement}
 use Rattle.std.specs.Prelude.{Ok}
+use Rattle.scan_statement.specs.Putting.{RowSmall}
 use Rattle.scan_statement.specs.ElementLaws.{free_put, value_put}
 use Rattle.scan_statement.specs.Patterns.{ElementRowPut, ElementRowPutBy}
 use Rattle.scan_statement.proofs.valuing.put_element.Goals.{After-put_fixed, After-put_row, After-put_value}
@@ -21,14 +22,16 @@ put_value-requires c =
       bytes = c.requires.bytes;
       holds = subst (PatternHolds c.requires.searched) c.in-Value.is c.requires.holds;
       few = c.requires.few;
-      strings = c.requires.buffers.strings;
-      lines = c.requires.buffers.lines;
     }
 
 pub overflow_cast-names : goal.overflow_cast-names
 overflow_cast-names c =
     let holds = subst (PatternHolds c.requires.searched) c.in-Free.is c.requires.holds in
     record { fits = omega (arith, holds.place) }
+
+pub put_row-requires-clause-small : goal.put_row-requires-clause-small
+unfolding RowSmall
+put_row-requires-clause-small c = tt
 
 pub length_value-z-requires : goal.length_value-z-requires
 length_value-z-requires c =
@@ -44,8 +47,6 @@ put_fixed-requires c =
       range = (c.length_value-z.ensures c.args.memory.store.now).range;
       known = holds.0.place;
       few = c.requires.few;
-      lines = c.requires.buffers.lines;
-      places = c.requires.buffers.places;
     }
 
 pub returns-in-Value : goal.returns-in-Value
@@ -61,14 +62,7 @@ returns-in-Value c =
           subst (λ (x : PatternElement). ElementRowPutBy c.put_value.result a.values.now values a.rows.now rows a.names.now (set a.names.now a.i 32)
           a.i (valued_in current m (pattern_meaning a.table.now x)))
           (sym c.in-Value.is)
-          (value_put a.values.now a.rows.now rows a.names.now a.i m c.put_value.result values
-          (element_meaning a.table.now c.in-Value.e) e.put);
-      buffers =
-          record {
-            strings = e.strings;
-            lines = e.lines;
-            places = length-set a.names.now a.i 32 ∙ c.requires.buffers.places;
-          };
+          (value_put a.values.now a.rows.now rows a.names.now a.i m c.put_value.result values (element_meaning a.table.now c.in-Value.e) e);
     }
 
 pub returns-in-Free : goal.returns-in-Free
@@ -77,7 +71,7 @@ returns-in-Free c =
     let a = c.args in
     let m = memory_in a.memory.store.now a.memory.state.now in
     let holds = subst (PatternHolds c.requires.searched) c.in-Free.is c.requires.holds in
-    let place = c.in-Free.s in
+    let place = c.in-Free.place in
     let rows = c.put_row.new.rows in
     record {
       put =
@@ -85,12 +79,6 @@ returns-in-Free c =
           (set a.names.now a.i place) a.i (valued_in current m (pattern_meaning a.table.now x)))
           (sym c.in-Free.is)
           (free_put a.values.now a.rows.now rows a.names.now a.i m place holds.place c.put_row.ensures);
-      buffers =
-          record {
-            strings = c.requires.buffers.strings;
-            lines = c.put_row.ensures.size ∙ c.requires.buffers.lines;
-            places = length-set a.names.now a.i place ∙ c.requires.buffers.places;
-          };
     }
 
 pub returns-in-Fixed : goal.returns-in-Fixed
@@ -99,8 +87,7 @@ returns-in-Fixed c =
     let put = (goal.at.returns-in-Fixed c).After-put_fixed in
     let a = c.args in
     let m = memory_in a.memory.store.now a.memory.state.now in
-    let e = c.put_fixed.ensures in
-    let place = c.in-Fixed.s in
+    let place = c.in-Fixed.place in
     let rows = c.put_fixed.new.rows in
     let names = c.put_fixed.new.names in
     record {
@@ -110,11 +97,5 @@ returns-in-Fixed c =
           (sym c.in-Fixed.is)
           (subst (λ (z : ℤ). ElementRowPut a.values.now a.values.now a.rows.now rows a.names.now names a.i c.put_fixed.result (fixed_at place z))
           (c.length_value-z.ensures a.memory.store.now).value
-          (e.put a.values.now c.requires.buffers.strings));
-      buffers =
-          record {
-            strings = c.requires.buffers.strings;
-            lines = e.lines;
-            places = e.places;
-          };
+          (c.put_fixed.ensures a.values.now));
     }

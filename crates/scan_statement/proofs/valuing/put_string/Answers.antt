@@ -1,24 +1,25 @@
 -- `valuing::put_string` meets its contract: the string is longer than any reference, or its bytes are those of its row.
-use mathlib.Core.Path.{◌∙◌}
+use native.Mathlib.Omega.{arith}
+use Rattle.scan_statement.specs.Putting.{RowSmall}
 use Rattle.scan_statement.specs.PatternLaws.{row_long, row-string}
 use Rattle.scan_statement.proofs.valuing.put_string.Goals as goal
+
+pub put_row-requires-clause-small : goal.put_row-requires-clause-small
+unfolding RowSmall
+put_row-requires-clause-small c = omega (arith, c.requires.short)
+
+pub put_row-requires-2-clause-small : goal.put_row-requires-2-clause-small
+unfolding RowSmall
+put_row-requires-2-clause-small c = (omega (arith, c.requires.few), omega (arith, c.requires.few, c.if-n-gt-LONGEST.false))
 
 pub returns-then-n-gt-LONGEST : goal.returns-then-n-gt-LONGEST
 returns-then-n-gt-LONGEST c =
     let a = c.args in
-    record {
-      lines = c.put_row.ensures.size ∙ c.requires.lines;
-      row =
-          λ values left w stands.
-          row_long values a.rows.now c.put_row.new.rows a.i a.n c.requires left w stands c.if-n-gt-LONGEST.true c.put_row.ensures;
-    }
+    λ values left w stands.
+    row_long values a.rows.now c.put_row.new.rows a.i a.n c.requires left w stands c.if-n-gt-LONGEST.true c.put_row.ensures
 
 pub returns : goal.returns
 returns c =
     let a = c.args in
-    record {
-      lines = c.put_row-2.ensures.size ∙ c.requires.lines;
-      row =
-          λ values left w stands.
-          row-string values a.rows.now c.put_row-2.new.rows a.i a.n c.requires left w stands c.if-n-gt-LONGEST.false c.put_row-2.ensures;
-    }
+    λ values left w stands.
+    row-string values a.rows.now c.put_row-2.new.rows a.i a.n c.requires left w stands c.if-n-gt-LONGEST.false c.put_row-2.ensures

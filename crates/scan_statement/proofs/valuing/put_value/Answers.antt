@@ -12,13 +12,13 @@ use Rattle.evaluator.specs.Appending.{AppendedText}
 use Rattle.evaluator.specs.Memory.{memory_in}
 use Rattle.machine.specs.Expressions.{element_in}
 use Rattle.decoder.specs.Meaning.{element_meaning}
-use Rattle.scan_statement.specs.ElementLaws.{added_stands, back-length}
+use Rattle.scan_statement.specs.ElementLaws.{added_stands}
 use Rattle.scan_statement.proofs.valuing.put_value.Goals.{After-append_element}
 use Rattle.scan_statement.proofs.valuing.put_value.Goals as goal
 
 pub slice_bounds-append_element-end : goal.slice_bounds-append_element-end
 slice_bounds-append_element-end c =
-    omega (arith, c.requires.few, c.requires.strings)
+    omega (arith, c.requires.few, c.told-values)
 
 pub append_element-requires : goal.append_element-requires
 append_element-requires c =
@@ -27,7 +27,7 @@ append_element-requires c =
     record {
       bytes = c.requires.bytes;
       holds = c.requires.holds;
-      room = length_stretch c.args.values.now at (at + 1024 - at) (omega (arith, c.requires.few, c.requires.strings)) ∙ size;
+      room = length_stretch c.args.values.now at (at + 1024 - at) (omega (arith, c.requires.few, c.told-values)) ∙ size;
     }
 
 -- what was appended
@@ -50,7 +50,7 @@ adds c e =
 pub put_string-requires : goal.put_string-requires
 put_string-requires c =
     let added = (goal.at.put_string-requires c).After-append_element in
-    record { lines = c.requires.lines; few = c.requires.few; short = (adds added c.in_ok-text.was).short }
+    record { few = c.requires.few; short = (adds added c.in_ok-text.was).short }
 
 pub returns : goal.returns
 returns c =
@@ -62,29 +62,14 @@ returns c =
     let room = c.append_element.ensures.room in
     let value = adds added c.in_ok-text.was in
     record {
-      put =
-          record {
-            value = value.value;
-            work = value.work;
-            row = c.put_string.ensures.row a.values.now _ value.value
-                (added_stands a.values.now bytes a.i (at + 1024 - at) c.requires.strings room size value);
-          };
-      strings = back-length a.values.now bytes a.i (at + 1024 - at) c.requires.strings room size c.requires.few;
-      lines = c.put_string.ensures.lines;
+      value = value.value;
+      work = value.work;
+      row = c.put_string.ensures a.values.now _ value.value
+          (added_stands a.values.now bytes a.i (at + 1024 - at) c.told-values room size value);
     }
 
 pub returns-in_err-text : goal.returns-in_err-text
 returns-in_err-text c =
     let added = (goal.at.returns-in_err-text c).After-append_element in
-    let a = c.args in
-    let at = 1024 * a.i in
-    let size : at + 1024 - at ≡ 1024 = omega arith in
     let p = err_from_is_err_and c.from_residual.result c.from_residual.ensures.1 in
-    rw (p.1, p.2)
-    (record {
-      put = adds added c.in_err-text.was;
-      strings =
-          back-length a.values.now c.append_element.new.out a.i (at + 1024 - at) c.requires.strings
-          c.append_element.ensures.room size c.requires.few;
-      lines = c.requires.lines;
-    })
+    rw (p.1, p.2) (adds added c.in_err-text.was)

@@ -4,4 +4,4 @@ use Rattle.statement_checks.specs.Listing.{ShowsNames}
 use Rattle.statement_checks.proofs.listing.list_names.Given as goal
 
 abbrev pub invariant-loop-i : goal.invariant-loop-i
-invariant-loop-i l = ShowsNames l.names l.i (purpose_meaning l.purpose) l.keys.items
+invariant-loop-i g l = ShowsNames g.row.MOST l.names l.i (purpose_meaning l.purpose) l.keys.items

@@ -49,24 +49,24 @@ pub read_branch-requires : goal.read_branch-requires
 read_branch-requires c =
     mark_ready c.args.text.now 41 c.in_ok-test.d c.in_ok-test.ensures.answer.ready c.in_ok-close.ensures
 
-pub returns-in_err-b : goal.returns-in_err-b
-returns-in_err-b c =
+pub returns-in_err-branch : goal.returns-in_err-branch
+returns-in_err-branch c =
     let a = c.args in
     let t = c.in_ok-test in
     λ table.
-    form_ends c.from_residual-in_err-b.ensures
+    form_ends c.from_residual-in_err-branch.ensures
     (if_read a.known.now table c.requires (Some (begun, c.in_ok-open.open)) (Some (t.test, t.d)) (Some (t.test, c.in_ok-close.close)) None
     (ap (λ (d : Option Cursor). rowed_at begun d) c.in_ok-open.ensures) (test_stage a.known.now begun (Some (t.test, t.d)) t.ensures)
-    (ap (λ (d : Option Cursor). rowed_at t.test d) c.in_ok-close.ensures) (branch_stage a.known.now t.test None c.in_err-b.ensures))
+    (ap (λ (d : Option Cursor). rowed_at t.test d) c.in_ok-close.ensures) (branch_stage a.known.now t.test None c.in_err-branch.ensures))
 
 pub returns : goal.returns
 returns c =
     let a = c.args in
     let t = c.in_ok-test in
-    let b = c.in_ok-b in
+    let b = c.in_ok-branch in
     λ table.
     form_ends c.ended.ensures
     (if_read a.known.now table c.requires (Some (begun, c.in_ok-open.open)) (Some (t.test, t.d)) (Some (t.test, c.in_ok-close.close))
-    (Some (draft_steps t.test b.b.success b.b.failure, b.e))
+    (Some (draft_steps t.test b.branch.success b.branch.failure, b.e))
     (ap (λ (d : Option Cursor). rowed_at begun d) c.in_ok-open.ensures) (test_stage a.known.now begun (Some (t.test, t.d)) t.ensures)
-    (ap (λ (d : Option Cursor). rowed_at t.test d) c.in_ok-close.ensures) (branch_stage a.known.now t.test (Some (b.b, b.e)) b.ensures))
+    (ap (λ (d : Option Cursor). rowed_at t.test d) c.in_ok-close.ensures) (branch_stage a.known.now t.test (Some (b.branch, b.e)) b.ensures))

@@ -27,17 +27,17 @@ returns-in_err-left c =
     (input_read a.known.now table u.size u.skips (ready_at u.skips c.requires u.inside) u.is None None
     (part_stage a.known.now begun None None c.in_err-left.ensures) (λ _. unread))
 
-pub returns-in_err-b : goal.returns-in_err-b
+pub returns-in_err-branch : goal.returns-in_err-branch
 unfolding bytes
-returns-in_err-b c =
+returns-in_err-branch c =
     let a = c.args in
     let u = c.behind_unit-d.ensures in
     let l = c.in_ok-left in
     let row = draft_left begun l.left in
     λ table.
-    form_ends c.from_residual-in_err-b.ensures
+    form_ends c.from_residual-in_err-branch.ensures
     (input_read a.known.now table u.size u.skips (ready_at u.skips c.requires u.inside) u.is (Some (row, l.e)) None
-    (part_stage a.known.now begun None (Some (l.left, l.e)) l.ensures) (c.in_err-b.ensures row))
+    (part_stage a.known.now begun None (Some (l.left, l.e)) l.ensures) (c.in_err-branch.ensures row))
 
 pub returns : goal.returns
 unfolding bytes
@@ -45,9 +45,9 @@ returns c =
     let a = c.args in
     let u = c.behind_unit-d.ensures in
     let l = c.in_ok-left in
-    let b = c.in_ok-b in
+    let b = c.in_ok-branch in
     let row = draft_left begun l.left in
     λ table.
     form_ends c.ended.ensures
     (input_read a.known.now table u.size u.skips (ready_at u.skips c.requires u.inside) u.is (Some (row, l.e))
-    (Some (draft_steps row b.b.success b.b.failure, b.f)) (part_stage a.known.now begun None (Some (l.left, l.e)) l.ensures) (b.ensures row))
+    (Some (draft_steps row b.branch.success b.branch.failure, b.f)) (part_stage a.known.now begun None (Some (l.left, l.e)) l.ensures) (b.ensures row))

@@ -7,10 +7,10 @@ use Rattle.statement_parser.specs.Drafts.{Form}
 use Rattle.symbols.specs.declared.Mentioned.{Mentioned}
 use Rattle.statement_parser.proofs.steps.more_numbers.Given as goal
 
-abbrev pub invariant-loop-mentioned : goal.invariant-loop-mentioned
-invariant-loop-mentioned l =
+abbrev pub invariant-loop-e : goal.invariant-loop-e
+invariant-loop-e l =
     ReaderReady l.text l.d
     × ((r : Form) (m : Mentioned) → MoreNumbersRead l.text l.mentioned l.d r m → MoreNumbersRead l.text l.initial.mentioned l.initial.d r m)
 
-abbrev pub decreases-loop-mentioned : goal.decreases-loop-mentioned
-decreases-loop-mentioned l = length l.text - l.d.at
+abbrev pub decreases-loop-e : goal.decreases-loop-e
+decreases-loop-e l = length l.text - l.d.at

@@ -1,13 +1,15 @@
--- `store::spans::are_zero` meets its contract. The loop's invariant: the bytes seen and those left are zero where all are.
-use mathlib.Core.Path.{sym, ◌∙◌}
-use Rattle.store.specs.SpanLaws.{zeros-more, zeros_end}
-use native.Mathlib.Omega.{arith}
+-- `store::spans::are_zero` meets its contract: all the bytes together are zero where each is.
+use Rattle.std.proofs.Common.{rules, ◌∙◌, ap, ℕ}
+use Rattle.std.proofs.lemmas.Iterator.{YieldsList-from_slice}
+use Rattle.std.proofs.lemmas.Iterator.Consumers.{fold_from_yields_List}
+use Rattle.std.specs.Int.Bits.{bit_or}
+use lib.Dec.{eqb}
+use Rattle.store.specs.SpanLaws.{zeros-folded}
 use Rattle.store.proofs.spans.are_zero.Goals as goal
-
-pub loop-b-preserved : goal.loop-b-preserved
-loop-b-preserved c = c.loop-b.invariant ∙ zeros-more c.args.s.now c.loop-b.b-index c.loop-b.seen (omega arith)
 
 pub returns : goal.returns
 returns c =
-    let l = c.loop-b in
-    sym (l.invariant ∙ zeros_end c.args.s.now l.b-index l.seen (omega arith))
+    let s = c.args.s.now in
+    ap (λ (n : ℕ). eqb n 0)
+    (fold_from_yields_List _ bit_or 0 c.fold.result c.fold.ensures.ran (YieldsList-from_slice s cc) (λ t x b q k. search rules))
+    ∙ zeros-folded s 0

@@ -5,4 +5,4 @@ use Rattle.interpreter.proofs.run.Ran.numbers.Goals as goal
 
 pub returns : goal.returns
 unfolding result_numbers
-returns c = rw c.number.ensures refl
+returns c = rw (c.number.ensures, c.number-2.ensures) refl
