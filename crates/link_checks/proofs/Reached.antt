@@ -23,7 +23,7 @@ use Rattle.link_checks.proofs.Losses.{any-routines, any_uses}
 use Rattle.link_checks.proofs.Turns.{gone_same}
 use Rattle.link_checks.specs.Below.{below, below-same, below_find, below-found, below_few}
 use Rattle.link_checks.specs.Held.{held_in}
-use Rattle.link_checks.specs.Pairs.{pair_in, routine_count, routine_key, has_key, by_use, use_pairs, executed_in}
+use Rattle.link_checks.specs.Pairs.{pair_in, routine_count, routine_key, routine_has_key, by_use, use_pairs, executed_in}
 use Rattle.link_checks.specs.declared.executed.TheConstants.{PLACES}
 use Rattle.link_checks.specs.Rounds.{go_on, gone_on}
 
@@ -92,8 +92,8 @@ abbrev pub back_at : (pairs : List (List Bool)) → (rounds i : ℕ) → Bool
 back_at pairs rounds i = gone_on rounds (pair_in pairs) PLACES (pair_in pairs i) i
 
 -- the key of a place where a routine stands
-key_at : (known : Known) (key i : ℕ) → i < routine_count known → has_key known key i ≡ eqb (routine_key known i) key
-unfolding has_key
+key_at : (known : Known) (key i : ℕ) → i < routine_count known → routine_has_key known key i ≡ eqb (routine_key known i) key
+unfolding routine_has_key
 key_at known key i h = ap (λ t. t && eqb (routine_key known i) key) (lt-ltb i (routine_count known) h)
 
 module _ (s : Symbols) where
@@ -116,11 +116,11 @@ module _ (s : Symbols) where
 
   -- a place where none stands executes none
   executes-none : (i j : ℕ) → routine_count s.known ≤ i → executed_in s i j ≡ false
-  unfolding executed_in use_pairs by_use has_key below
+  unfolding executed_in use_pairs by_use routine_has_key below
   executes-none i j h =
       let us = s.uses in
       let none : Bool → ℕ → Bool = λ t u. same_purpose for_routine (purpose_meaning (get_or us.purposes u Program))
-      && ((t && eqb (routine_key s.known i) (get_or us.scopes u 0)) && has_key s.known (get_or us.keys u 0) j) in
+      && ((t && eqb (routine_key s.known i) (get_or us.scopes u 0)) && routine_has_key s.known (get_or us.keys u 0) j) in
       ap (λ t. below (none t) us.count) (le-ltb i (routine_count s.known) h)
       ∙ ap (λ f. below f us.count) (λ t u. and-false (same_purpose for_routine (purpose_meaning (get_or us.purposes u Program))) t)
       ∙ sym (below_few (λ _. false) 0 us.count (omega arith) (λ _ _ _. refl))

@@ -27,12 +27,12 @@ abbrev pub routine_key : Known → ℕ → ℕ
 routine_key known i = (get_or known.routines.items i no_routine).key
 
 -- a routine stands at a place and has this key
-unfoldable pub has_key : (known : Known) → (key i : ℕ) → Bool
-has_key known key i = ltb i (routine_count known) && eqb (routine_key known i) key
+unfoldable pub routine_has_key : (known : Known) → (key i : ℕ) → Bool
+routine_has_key known key i = ltb i (routine_count known) && eqb (routine_key known i) key
 
 -- the pairs of the places that have the key scope with those that have a key
 unfoldable pub by_use : (known : Known) → (scope key : ℕ) → ℕ → ℕ → Bool
-by_use known scope key a b = has_key known scope a && has_key known key b
+by_use known scope key a b = routine_has_key known scope a && routine_has_key known key b
 
 -- use u is of a routine and makes this pair
 unfoldable pub use_pairs : (known : Known) (uses : Uses) → (a b u : ℕ) → Bool

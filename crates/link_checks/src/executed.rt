@@ -2,7 +2,7 @@
 // Assumes nothing.
 ghost use Rattle.std.specs.Prelude.{◌≡◌, ◌||◌, ℕ};
 ghost use Rattle.link_checks.specs.Held.{Closable};
-ghost use Rattle.link_checks.specs.Pairs.{mark_at, pair_in, has_key, by_use, executed_in};
+ghost use Rattle.link_checks.specs.Pairs.{mark_at, pair_in, routine_has_key, by_use, executed_in};
 
 use symbols::known::{Known, LISTED_ROUTINES, Symbols};
 use symbols::tags::Purpose;
@@ -13,7 +13,7 @@ pub const PLACES: usize = LISTED_ROUTINES;
 // notes in the row of a place that it executes each place with a key
 // kept: by place, here and below: iter_mut under an adapter leaves nothing known of what is written (the kit's guide to its library)
 fn note_row(known: &Known, row: &mut [bool; PLACES], key: u64)
-    ensures { (j : ℕ) → mark_at row.new j ≡ (mark_at row.old j || has_key known.now key j) }
+    ensures { (j : ℕ) → mark_at row.new j ≡ (mark_at row.old j || routine_has_key known.now key j) }
 {
     for (j, routine) in known.routines.iter().enumerate() {
         row[j] |= routine.key == key;

@@ -29,7 +29,7 @@ use Rattle.register.specs.declared.Refusal.{Refusal}
 use Rattle.register.specs.declared.Refusal.TheVariants.{BadBuffer}
 use Rattle.register_reading.specs.declared.opened.Opened.{Opened}
 use Rattle.register_reading.specs.Opened.{OpenedRead, OpenedReads}
-use Rattle.register_reading.specs.Reading.{KeysRead, KeysReads, LinesCounted, Placed, RegisterHeld, RegisterRead, RegisterReads, RegisterReady, SlotsHold}
+use Rattle.register_reading.specs.Reading.{KeysRead, KeysReads, LinesCounted, Placed, RegisterKeyed, RegisterRead, RegisterReads, RegisterReady, SlotsHold}
 use Rattle.register_reading.specs.Reading.{Trimmed, Unopened, fields_of, has_fields, header_fields, key_in, slot_at, slots_hold}
 use Rattle.register_reading.specs.SlotLaws.{trim_line}
 
@@ -159,12 +159,12 @@ module _ (buffer : List ℕ) where
   unfolding RegisterReads
   is_broken keys read = read.finds
 
-  pub read_known : (keys : List ℕ) (fields : Fields) → RegisterRead buffer keys (Some fields) → RegisterHeld buffer fields keys
+  pub read_known : (keys : List ℕ) (fields : Fields) → RegisterRead buffer keys (Some fields) → RegisterKeyed buffer fields keys
   unfolding RegisterReads
   read_known keys fields read = read.finds
 
   module _ (keys : List ℕ) where
-    pub held_opened : RegisterHeld buffer Five keys → RegisterReady buffer keys
+    pub held_opened : RegisterKeyed buffer Five keys → RegisterReady buffer keys
     unfolding is_open fields_of
     held_opened held = record { keeps = held.keeps; is_open_lem = some (is_nil (register_in buffer).house) held.form; keyed = held.keyed }
       where
@@ -172,7 +172,7 @@ module _ (buffer : List ℕ) where
         some true e = cc
         some false e = refl
 
-    pub held_old : RegisterHeld buffer Four keys → Unopened buffer (length keys)
+    pub held_old : RegisterKeyed buffer Four keys → Unopened buffer (length keys)
     unfolding is_open fields_of
     held_old held =
         record {

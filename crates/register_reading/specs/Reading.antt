@@ -66,7 +66,7 @@ unfoldable pub header_fields : (header : List ℕ) → Option Fields
 header_fields header = cond (slot_cell_keeps is_house header) (Some (fields_of (text_in header))) None
 
 -- a register with how many fields its lines have, and their keys
-pub record RegisterHeld (buffer : List ℕ) (fields : Fields) (keys : List ℕ) : Type 0 where
+pub record RegisterKeyed (buffer : List ℕ) (fields : Fields) (keys : List ℕ) : Type 0 where
   pub keeps : buffer_keeps buffer ≡ true
   pub form : fields ≡ fields_of (register_in buffer).house
   pub keyed : keys ≡ keys_of (register_in buffer).lines
@@ -89,7 +89,7 @@ pub record Unopened (buffer : List ℕ) (n : ℕ) : Type 0 where
 
 -- what was read, of any register; and the keys of an opened one
 unfoldable pub RegisterReads : (buffer keys : List ℕ) → Option Fields → Type 0
-RegisterReads buffer keys (Some fields) = RegisterHeld buffer fields keys
+RegisterReads buffer keys (Some fields) = RegisterKeyed buffer fields keys
 RegisterReads buffer keys None = buffer_keeps buffer ≡ false
 
 pub record RegisterRead (buffer keys : List ℕ) (r : Option Fields) : Type 0 where

@@ -27,15 +27,15 @@ use Rattle.scanning.specs.FirstFit.{scan_first_fit}
 use Rattle.scanning.specs.Call.{longest_reference, most_elements, scan_row_size, number4, row_count, string_of_row, fixed_by, element_of_row}
 use Rattle.scanning.specs.Call.{no_answer, join_element, elements_of_rows, pattern_of_rows, split_numbers, answer_numbers, Called, scan_turned_down, scan_with, scan_call}
 use Rattle.scanning.specs.Call.{split_in, ScanPromise}
-use Rattle.scan.specs.Rows.{scan_row, scan_row_at, row_element, scan_element, scan_elements, pattern_of, RowGood, GoodRows, WholeRows, GoodPattern, held, is_element}
+use Rattle.scan.specs.Rows.{scan_row, scan_row_at, row_element, scan_element, scan_elements, pattern_of, RowGood, GoodRows, WholeRows, GoodPattern, some_element, is_element}
 use Rattle.scan.proofs.Chunks.{concat_length, concat_row, concat_element, chunks_whole, chunks_concat, take_row}
 use Rattle.scan.specs.declared.Element.{Element}
 use Rattle.scan.specs.declared.Element.TheVariants.{Part, Fixed, Free}
 
-held_cond : (b : Bool) (e : Splits.Element) → held (cond b (some e) none) ≡ b
-unfolding held
-held_cond true e = refl
-held_cond false e = refl
+some_cond : (b : Bool) (e : Splits.Element) → some_element (cond b (some e) none) ≡ b
+unfolding some_element
+some_cond true e = refl
+some_cond false e = refl
 
 -- whether what an element holds lies within: a part's ends in order and in the values, a length not negative
 unfoldable pub lies : List ℕ → Element → Bool
@@ -93,8 +93,8 @@ module _ (values b : List ℕ) (at : ℕ) where
   row_cut h = rw (lt-leb (at + 12) (length b) h)
 
   -- whether it is one
-  pub row_is : at + 12 ≤ length b → held (element_of_row values b at) ≡ told
-  row_is room = ap held (row_read room) ∙ held_cond told (scan_element values (scan_row_at b at))
+  pub row_is : at + 12 ≤ length b → some_element (element_of_row values b at) ≡ told
+  row_is room = ap some_element (row_read room) ∙ some_cond told (scan_element values (scan_row_at b at))
 
 -- a row that is an element holds a good one
 pub element_good : (values row : List ℕ) → length row ≡ 12 → ((i : ℕ) → get_or row i 0 < 256) → is_element values row ≡ true

@@ -99,13 +99,14 @@ pub record GoodPattern (values : List ℕ) (rows : List (List ℕ)) : Type 0 whe
 pub good_pattern_prop : (values : List ℕ) (rows : List (List ℕ)) → IsProp (GoodPattern values rows)
 good_pattern_prop values rows = hlevel (props, good_rows_prop)
 
--- whether a row is an element
-unfoldable pub held : Option Splits.Element → Bool
-held none = false
-held (some e) = true
+-- whether there is an element
+unfoldable pub some_element : Option Splits.Element → Bool
+some_element none = false
+some_element (some e) = true
 
+-- whether a row is one
 unfoldable pub is_element : (values row : List ℕ) → Bool
-is_element values row = held (element_of_row values row 0)
+is_element values row = some_element (element_of_row values row 0)
 
 -- the lengths of an answer, the start first, filled with zeros behind three numbers that are still 0
 unfoldable pub row_answer : ℕ → List ℕ → List ℕ
