@@ -1,9 +1,10 @@
 -- Laws of what statements leave: a record read, a record put, a stretch of a string set. Assumes nothing.
 use Rattle.std.specs.Prelude.{Option, Some, None, nat_abs, true, ◌≡◌, leb, ℤ}
+use Rattle.std.proofs.lemmas.List.{drop_min}
 use Rattle.std.proofs.Math.Bool.{false, ◌||◌}
 use mathlib.Core.List.{List, [], ◌∷◌, ◌++◌}
 use Rattle.std.proofs.Math.Path.{refl, sym, ap, ap₂, subst}
-use Rattle.std.proofs.Common.{◌∙◌, drop_of_length-le, take-take}
+use Rattle.std.proofs.Common.{◌∙◌, take-take}
 use Prim.Native.Nat.{ℕ, ◌+◌, ◌*◌, ◌-◌, ◌≤◌, ◌<◌, min}
 use Rattle.std.proofs.Math.Nat.{add-zero, min-eq_left, min-eq_right, min-le_left, min-le_right}
 use native.Mathlib.Omega.{arith}
@@ -90,16 +91,6 @@ take-least l a n =
     take_all a (take n l) (simp length-take (omega (arith, min-le_left n (length l))))
     ∙ ap (λ (j : ℕ). take j l) (sym (min-eq_left h)))
 
-pub drop-least : (l : List ℕ) (n : ℕ) → drop (min n (length l)) l ≡ drop n l
-drop-least l n =
-    test_cases (λ _. drop (min n (length l)) l ≡ drop n l) (leb n (length l))
-    (λ e.
-    let h : n ≤ length l = leb-true n (length l) e in
-    ap (λ (j : ℕ). drop j l) (min-eq_left h))
-    (λ e.
-    let h : length l ≤ n = omega (arith, leb-false n (length l) e) in
-    ap (λ (j : ℕ). drop j l) (min-eq_right h) ∙ drop_of_length-le l {i = length l} (omega arith) ∙ sym (drop_of_length-le l {i = n} h))
-
 is_nil_lem : (l : List ℕ) → length l ≡ 0 → is_nil l ≡ true
 is_nil_lem l h = nil_length l ∙ eq-eqb (length l) 0 h
 
@@ -153,7 +144,7 @@ module _ (store input : List ℕ) (place most from : ℕ) (t : Taking store plac
       let strings : set (strings_in store) place v ≡ strings_in left =
       sym (ap strings_in is ∙ with-strings store t.good place v short) in
       let rest : drop (n + 1) r ≡ drop to input =
-      sym (drop-least r (n + 1))
+      sym (drop_min (n + 1) r)
       ∙ ap (λ (j : ℕ). drop (min (n + 1) j) r) size
       ∙ drop-drop (min (n + 1) (length input - from)) from input in
       let some : (eqb most 0 || is_nil r) ≡ false =

@@ -1,6 +1,6 @@
 -- What statements ask for and leave in the buffers, as the machine's definitions have it. Assumes nothing.
 use Rattle.std.specs.Prelude as std
-use Rattle.std.specs.Prelude.{Bool, true, false, Option, Some, None, nat_abs, List, ◌≡◌, ℕ, ◌≤◌, ◌<◌, ltb, ℤ, length, take, drop, Ok, Err}
+use Rattle.std.specs.Prelude.{Bool, true, false, Option, Some, None, nat_abs, List, ◌≡◌, ℕ, ◌≤◌, ◌<◌, ℤ, length, take, drop, Ok, Err}
 use Rattle.encoding.specs.BufferLaws.{StoreGood}
 use Rattle.encoding.specs.Buffers.{strings_in, store_size}
 use Rattle.store.specs.Clauses.{string_of, string_replaced}

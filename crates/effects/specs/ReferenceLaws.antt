@@ -3,9 +3,9 @@ use Rattle.std.specs.Prelude.{Ok, true, false, List, [], ◌≡◌, leb, nat_abs
 use Rattle.std.proofs.Common.{sym, ap, ap₂, ◌∙◌, arith, length-drop, take_all, leb-false, leb-true}
 use Rattle.std.proofs.Math.Path.{subst}
 use Prim.Native.Nat.{ℕ, ◌-◌, ◌≤◌, ◌<◌, min}
-use Rattle.std.proofs.Math.Nat.{min_comm, min-eq_left, min-eq_right, min-le_right}
+use Rattle.std.proofs.Math.Nat.{min-eq_left, min-eq_right, min-le_right}
 use Rattle.std.proofs.Math.ListN.{length}
-use Rattle.std.proofs.Math.Seq.{drop-length, take-length}
+use Rattle.std.proofs.Math.Seq.{drop-length}
 use Rattle.base.specs.Choice.{test_cases}
 use Rattle.store.specs.Clauses.{string_of}
 use Rattle.evaluator.specs.Memory.{memory_in}
@@ -18,12 +18,8 @@ use Rattle.decoder.specs.Holds.{searched_place}
 use Rattle.decoder.specs.declared.Part.{Part}
 use Rattle.values.specs.Numbers.{is_negative}
 use Rattle.values.specs.Result.{done, stop, pure}
-use Rattle.effects.specs.Laws.{drop-least, take-least}
+use Rattle.std.proofs.lemmas.List.{take_min, drop_min}
 use Rattle.effects.specs.References.{Refers, restricted_by}
-
-take-least-all : (l : List ℕ) (n : ℕ) → take (min n (length l)) l ≡ take n l
-take-least-all l n =
-    ap (λ (j : ℕ). take j l) (min_comm n (length l)) ∙ sym (take-least l n (length l)) ∙ ap (take n) (take-length l)
 
 -- a string restricted to its first or last n bytes
 found-restricted : (d : Direction) (store : List ℕ) (place n : ℕ) (p : Part) → place < 32 → place ≡ searched_place p
@@ -39,7 +35,7 @@ found-restricted forward store place n p h e =
       between = record { known = h; order = omega arith; within = min-le_right n (length v) };
       work =
           ap₂ (λ (r b : List ℕ). done (record { place = place; before = []; reference = r; behind = b }) 0)
-          (sym (take-least-all v n) ∙ ap (λ (j : ℕ). take j v) whole) (sym (drop-least v n));
+          (sym (take_min n v) ∙ ap (λ (j : ℕ). take j v) whole) (sym (drop_min n v));
     }
 found-restricted backward store place n p h e =
     let v = string_of store place in

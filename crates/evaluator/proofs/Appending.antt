@@ -8,19 +8,10 @@ use lib.Dec.{leb}
 use lib.ListN.{length, take, length-append}
 use lib.Seq.{length-take-le, take_all, take-append-add, take-append-le}
 use borrow.Author.Tests.{leb-true, leb-false}
+use Rattle.std.proofs.lemmas.List.{take_min}
 use Rattle.base.specs.Choice.{test_cases}
 use Rattle.encoding.specs.Splices.{splice, length-splice, take-written}
 use Rattle.evaluator.specs.Appending.{AppendedBehind, Appended}
-
--- as many bytes as asked for, or all
-pub take-least : (k : ℕ) (l : List ℕ) → take (min k (length l)) l ≡ take k l
-take-least k l =
-    test_cases (λ _. take (min k (length l)) l ≡ take k l) (leb k (length l))
-    (λ t. ap (λ (i : ℕ). take i l) (min-eq_left (leb-true k (length l) t)))
-    (λ f.
-    let short : length l ≤ k = omega (arith, leb-false k (length l) f) in
-    let all : length l ≤ length l = omega arith in
-    ap (λ (i : ℕ). take i l) (min-eq_right short) ∙ take_all (length l) l all ∙ sym (take_all k l short))
 
 module _ (out v : List ℕ) (at : ℕ) (size : length out ≡ 1024) where
   -- behind 1,024 bytes nothing is kept
@@ -67,6 +58,6 @@ module _ (out v : List ℕ) (at : ℕ) (size : length out ≡ 1024) where
           ∙ take-written out at (take n v) (omega (arith, after, few, least, min-le_left (1024 - at) (length v)))
           ∙ ap (λ (l : List ℕ). l ++ take n v) front
           ∙ ap (λ (i : ℕ). u ++ take i v) least
-          ∙ ap (λ (l : List ℕ). u ++ l) (take-least (1024 - at) v)
+          ∙ ap (λ (l : List ℕ). u ++ l) (take_min (1024 - at) v)
           ∙ sym (take-append-add u v (1024 - at))
           ∙ ap (λ (i : ℕ). take i (u ++ v)) place

@@ -1,8 +1,7 @@
 -- Where numbers lie in a state. Assumes nothing.
-use mathlib.Core.List.{List, [], ◌∷◌, map}
-use mathlib.Core.Path.{◌≡◌, refl, sym, ap, subst, ◌∙◌}
-use Prim.Native.Nat.{ℕ, zero, suc, ◌+◌, ◌^◌, ◌≤◌, ◌<◌}
-use native.Mathlib.Nat.{not-suc-le-zero}
+use mathlib.Core.List.{List}
+use mathlib.Core.Path.{◌≡◌, sym, ap, subst, ◌∙◌}
+use Prim.Native.Nat.{ℕ, ◌+◌, ◌^◌, ◌≤◌, ◌<◌}
 use native.Mathlib.Omega.{arith}
 use lib.IntN.{ℤ, pos, nat_abs}
 use lib.ListN.{length, take, drop, get_or, length-drop}
@@ -13,14 +12,9 @@ use Rattle.encoding.specs.NumeralLaws.{biased_small, biased-unbiased}
 use Rattle.encoding.specs.Numerals.{bias, unbiased}
 use Rattle.numbers.specs.Numbers.{GivesInt}
 use Rattle.numbers.specs.declared.Int.{Int}
+use Rattle.std.proofs.lemmas.List.{get_or-map}
 use Rattle.machine.specs.State.{most_numbers, number_at}
 use Rattle.evaluator.specs.Memory.{memory_in, StateNumbered}
-
--- an element of a list that was made of another
-get_or_mapped : {A B : Type 0} (f : A → B) (l : List A) (i : ℕ) (d : A) (z : B) → i < length l → get_or (map f l) i z ≡ f (get_or l i d)
-get_or_mapped f [] i d z h = absurd (not-suc-le-zero h)
-get_or_mapped f (x ∷ l) zero d z h = refl
-get_or_mapped f (x ∷ l) (suc i) d z h = get_or_mapped f l i d z (omega arith)
 
 -- a number of a state, and the 6 bytes that it is kept in
 module _ (state : List ℕ) (n : StateNumbered state) (i : ℕ) (h : i < 32) where
@@ -28,7 +22,7 @@ module _ (state : List ℕ) (n : StateNumbered state) (i : ℕ) (h : i < 32) whe
   unfolding numbers_in numbers_at most_numbers
   number_entry =
       let size : length (take 32 (drop 21 state)) ≡ 32 = length-take-le 32 (drop 21 state) (simp length-drop (omega (arith, n.size))) in
-      get_or_mapped unbiased (take 32 (drop 21 state)) i 0 (pos 0) (omega arith)
+      get_or-map unbiased (take 32 (drop 21 state)) i 0 (pos 0) (omega arith)
       ∙ ap unbiased (get_or-take 32 (drop 21 state) i 0 h ∙ get_or-drop 21 state i 0)
 
   pub number_small : get_or state (21 + i) 0 < 2 ^ 48

@@ -84,12 +84,6 @@ pub balanced_end : (known : ℕ) → balanced known [] ≡ true → known ≡ 1
 unfolding balanced
 balanced_end known h = eqb-true known 1 h
 
--- and that no more than 64 wait
-pub after-most : (known : ℕ) (x : Item) → known ≤ 64 → FindsWaiting known x → waiting_after known x ≤ 64
-after-most known (items.Operand a) h f = omega arith
-after-most known (items.Operator o) h f = omega arith
-after-most known (items.Sign s) h f = h
-
 -- what each kind of item makes of the numbers waiting
 module _ (m : Memory) {s : Stack} where
   pub operand_takes : (a : Program.Operand) {v : Noted Int} {t : Stack} → operand_in current m a ≡ done v.value.value v.notes → OnTop v.value s t

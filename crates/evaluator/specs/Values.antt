@@ -1,7 +1,7 @@
 -- What the code's answers stand for. Assumes nothing.
 use Rattle.std.specs.Prelude as std
 use Rattle.std.proofs.Common.{Bor}
-use Rattle.std.specs.Prelude.{Bool, List, ◌≡◌, ℕ, ◌-◌, ◌≤◌, ℤ, length, take, drop, Ok, Err}
+use Rattle.std.specs.Prelude.{Bool, List, ◌≡◌, ℕ, ◌-◌, ◌≤◌, ℤ, length, take, Ok, Err}
 use Rattle.base.specs.Current.{current}
 use Rattle.numbers.specs.Text.{Text}
 use Rattle.values.specs.Conversion.{number_of, is_numeric}

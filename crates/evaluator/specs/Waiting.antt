@@ -1,6 +1,6 @@
 -- The numbers that wait for an operator, in the first places of 64, and what an item does to them. Assumes nothing.
 use Rattle.std.specs.Prelude as std
-use Rattle.std.specs.Prelude.{Ok, Err, List, [], ◌∷◌, ◌≡◌, ℕ, zero, suc, ◌+◌, ◌-◌, ◌≤◌, ◌<◌, ℤ, pos, neg_ℤ, nat_abs, length, get_or}
+use Rattle.std.specs.Prelude.{Ok, Err, List, [], ◌∷◌, ◌≡◌, ℕ, zero, suc, ◌+◌, ◌-◌, ◌≤◌, ◌<◌, ℤ, pos, neg_ℤ, length, get_or}
 use Rattle.numbers.specs.Numbers.{IntInRange}
 use Rattle.numbers.specs.declared.Int.{Int}
 use Rattle.syntax.specs.Program as Program

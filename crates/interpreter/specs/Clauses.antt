@@ -1,6 +1,6 @@
 -- What the functions of a step ask for and leave. Assumes nothing.
 use Rattle.std.specs.Prelude as std
-use Rattle.std.specs.Prelude.{true, false, cond, not, List, Ok, Err, reverse, ◌≡◌, ℕ, ◌+◌, ◌≤◌, ◌<◌, ltb, length, get_or, set, replicate}
+use Rattle.std.specs.Prelude.{true, false, cond, not, List, Ok, Err, reverse, ◌≡◌, ℕ, ◌≤◌, ◌<◌, ltb, length, get_or, set, replicate}
 use Rattle.base.specs.Current.{current, table_size}
 use Rattle.encoding.specs.Buffers.{returns_in, store_keeps, state_keeps}
 use Rattle.calls.specs.Calls.{Buffers, left_of, StepCalled, RunCalled}

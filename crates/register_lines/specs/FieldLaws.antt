@@ -102,10 +102,6 @@ unfolding between
 number_led k [] = and-false (not (begins (bytes "0") []))
 number_led k (b ∷ bs) = rw (lead b bs) (and_comm (not (eqb b 48)) (between 1 k (length (b ∷ bs))))
 
-alone : (t : Bool) → (t && true) ≡ t
-alone true = refl
-alone false = refl
-
 -- what stands behind a comma, as the library strips it
 pub comma_stripped : (l : List ℕ) (r : Option (Bor (List ℕ)))
     → MatchOption r (pointwise eqb (take 1 l) (44 ∷ []) ≡ false)
@@ -114,8 +110,8 @@ pub comma_stripped : (l : List ℕ) (r : Option (Bor (List ℕ)))
 unfolding behind_comma comma
 comma_stripped [] None h = refl
 comma_stripped [] (Some x) h = absurd (false≢true h.0)
-comma_stripped (b ∷ bs) None h = rw (sym (alone (eqb b 44)) ∙ h) refl
-comma_stripped (b ∷ bs) (Some x) h = rw (sym (alone (eqb b 44)) ∙ h.0) (ap (λ l. Some l) h.1)
+comma_stripped (b ∷ bs) None h = rw (sym (and-true (eqb b 44)) ∙ h) refl
+comma_stripped (b ∷ bs) (Some x) h = rw (sym (and-true (eqb b 44)) ∙ h.0) (ap (λ l. Some l) h.1)
 
 -- a field behind a comma, by what the code counts, tests and hands on
 module _ (p : ℕ → Bool) (passes : List ℕ → Bool) (rest : List ℕ) where

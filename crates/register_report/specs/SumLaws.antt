@@ -3,7 +3,7 @@ use Rattle.std.specs.Prelude.{true, false, ◌≡◌, leb, take}
 use mathlib.Core.List.{List, [], ◌∷◌, ◌++◌, append_assoc, map, map-append}
 use Rattle.std.proofs.Math.Path.{refl, ap, ap₂, subst}
 use Rattle.std.proofs.Common.{sym, ◌∙◌, zero-add, add-one, arith, length-append, take_all, take-suc}
-use Prim.Native.Nat.{ℕ, zero, suc, ◌+◌, ◌*◌, ◌≤◌, ◌<◌}
+use Prim.Native.Nat.{ℕ, ◌+◌, ◌*◌, ◌≤◌, ◌<◌}
 use Rattle.std.proofs.Math.ListN.{get_or-eq_default, length, drop, get_or, drop_of_length-le, length-map}
 use borrow.Author.Tests.{eq-eqb, leb-false, leb-true, ne_eqb}
 use Rattle.std.proofs.lemmas.List.{get_or-map}
@@ -231,12 +231,7 @@ module _ (lines : Lines) (codes tonnes values : List ℕ) (c : Columns lines cod
 
       code_here : code ≡ currency_code word
       unfolding codes_of
-      code_here = t.next ∙ mapped words j h
-        where
-          mapped : (ws : List (List ℕ)) (j : ℕ) → j < length ws → get_or (map currency_code ws) j no_code ≡ currency_code (get_or ws j [])
-          mapped [] j h = absurd (omega arith)
-          mapped (w ∷ ws) zero h = refl
-          mapped (w ∷ ws) (suc j) h = mapped ws j (omega arith)
+      code_here = t.next ∙ get_or-map currency_code words j [] no_code h
 
     pub listed_last : code ≡ no_code → TotalsPut lines middle at
     listed_last e =

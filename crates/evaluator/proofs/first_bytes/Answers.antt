@@ -9,7 +9,7 @@ use native.Mathlib.Nat.{min-le_right}
 use Rattle.std.proofs.Common.{length-take}
 use Rattle.store.specs.Clauses.{string_of}
 use Rattle.values.specs.Conversion.{substring}
-use Rattle.evaluator.proofs.Appending.{take-least}
+use Rattle.std.proofs.lemmas.List.{take_min}
 use Rattle.evaluator.proofs.first_bytes.Goals as goal
 
 pub returns-in-Some : goal.returns-in-Some
@@ -19,7 +19,7 @@ returns-in-Some c =
     let natural = c.in-Some.ensures in
     let cut : take c.min.result string ≡ take (nat_abs c.args.n.value) (string_of c.args.memory.store.now c.args.place) =
     ap (λ (i : ℕ). take i string) c.min.ensures
-    ∙ take-least c.in-Some.most string
+    ∙ take_min c.in-Some.most string
     ∙ ap₂ (λ (i : ℕ) (l : List ℕ). take i l) natural.1 c.string-string.ensures.0 in
     let short = c.string-string.ensures.1 in
     rw c.plain.ensures

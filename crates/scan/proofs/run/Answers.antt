@@ -16,7 +16,7 @@ use mathlib.Core.Path.{◌≡◌, refl, sym, ◌∙◌, ap, subst}
 use Rattle.scan.proofs.Running.{Running}
 use Prim.Native.Nat.{ℕ, ◌+◌, ◌<◌}
 use native.Mathlib.Omega.{arith}
-use Rattle.scan.proofs.run.Goals.{After-pass_places-k, After-stands-known, In-Err, In-Ok, then-eq-via-then-eq, then-eq-via-else-eq+then-place-reference}
+use Rattle.scan.proofs.run.Goals.{After-pass_places-k, In-Err, In-Ok, then-eq-via-then-eq, then-eq-via-else-eq+then-place-reference}
 use Rattle.std.proofs.Common.{inl, inr, rules}
 use Rattle.scan.proofs.run.Goals as goal
 

@@ -1,5 +1,4 @@
 -- `valuing::put_fixed` meets its contract: the length is negative, or it is not.
-use mathlib.Core.Path.{◌∙◌}
 use native.Mathlib.Omega.{arith}
 use Rattle.scan_statement.specs.Putting.{RowSmall}
 use Rattle.scan_statement.specs.ElementLaws.{fixed_natural, fixed_negative}
