@@ -214,6 +214,25 @@ def register():
             ["opening", "offer", "get", "report", "old", "reset", "number", "handed", "reported"], ["answers", "times"])
 
 
+def decks(folder, prefix):
+    """The decks of a folder as facts, in modules whose names begin so; the names of these."""
+    modules = []
+    found = sorted(glob.glob(os.path.join(ROOT, "tests/vectors", folder, "*.deck")))
+    for i in range(0, len(found), PER_FILE):
+        module = "%sDecks%02d" % (prefix, i // PER_FILE)
+        modules.append(module)
+        lines = ["-- Decks with their inputs and traces. Assumes nothing.", "use Rattle.std.specs.Prelude.{true, ◌≡◌, refl}",
+                 "use Rattle.vectors.specs.Trace.{agrees, agrees_whole}"]
+        for deck in found[i:i + PER_FILE]:
+            name = os.path.basename(deck)[:-5].replace("-", "_")
+            whole = os.path.exists(deck[:-5] + ".out")
+            data = [open(deck[:-5] + ext, "rb").read() for ext in (".deck", ".in", ".trace") + ((".out",) if whole else ())]
+            test = "agrees_whole" if whole else "agrees"
+            lines += ["", f"{name} : {test} {' '.join(text(d) for d in data)} ≡ true", f"unfolding {test}", f"{name} = refl"]
+        write(module, lines)
+    return modules
+
+
 def main():
     with open(os.path.join(ROOT, "crates/computing/specs/Lib.antt"), "w") as f:
         f.write("\n".join([
@@ -222,22 +241,11 @@ def main():
             "unfoldable pub everything : Unit {0}",
             "unfolding",
         ] + ["    " + n for n in unfoldable(DEFINITIONS)] + ["everything = tt"]) + "\n")
-    for old in glob.glob(os.path.join(SPECS, "Decks*.antt")) + glob.glob(os.path.join(SPECS, "Scans*.antt")):
+    for old in glob.glob(os.path.join(SPECS, "*Decks*.antt")) + glob.glob(os.path.join(SPECS, "Scans*.antt")):
         os.remove(old)
-    modules = ["Scans", "Trace"]
-    decks = sorted(glob.glob(os.path.join(ROOT, "tests/vectors/decks/*.deck")))
-    for i in range(0, len(decks), PER_FILE):
-        module = "Decks%02d" % (i // PER_FILE)
-        modules.append(module)
-        lines = ["-- Decks with their inputs and traces. Assumes nothing.", "use Rattle.std.specs.Prelude.{true, ◌≡◌, refl}",
-                 "use Rattle.vectors.specs.Trace.{agrees, agrees_whole}"]
-        for deck in decks[i:i + PER_FILE]:
-            name = os.path.basename(deck)[:-5]
-            whole = os.path.exists(deck[:-5] + ".out")
-            data = [open(deck[:-5] + ext, "rb").read() for ext in (".deck", ".in", ".trace") + ((".out",) if whole else ())]
-            test = "agrees_whole" if whole else "agrees"
-            lines += ["", f"{name} : {test} {' '.join(text(d) for d in data)} ≡ true", f"unfolding {test}", f"{name} = refl"]
-        write(module, lines)
+    modules = ["Scans", "Trace"] + decks("decks", "")
+    for wish in sorted(os.path.basename(path) for path in glob.glob(os.path.join(ROOT, "tests/vectors/wish*"))):
+        modules += decks(wish, wish.capitalize())
     scans = open(os.path.join(ROOT, "tests/vectors/scans.txt")).read().splitlines()
     lines = ["-- Scans with their answers, some hundred a fact. Assumes nothing.", "use Rattle.std.specs.Prelude.{true, ◌≡◌, refl}",
              "use Rattle.vectors.specs.Trace.{scans_agree}"]
@@ -246,7 +254,7 @@ def main():
         lines += ["", f"{name} : scans_agree {text(''.join(l + chr(10) for l in scans[i:i + 100]).encode())} ≡ true",
                   "unfolding scans_agree", f"{name} = refl"]
     write("Scans", lines)
-    write("Lib", ["-- The definitions answer the vectors, as computed facts: how an answer is written (Trace), decks (Decks..), scans (Scans)."]
+    write("Lib", ["-- The definitions answer the vectors, as computed facts: how an answer is written (Trace), decks (Decks.., Wish..Decks..), scans (Scans)."]
           + ["pub mod " + m for m in sorted(modules)])
     register()
 

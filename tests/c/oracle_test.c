@@ -378,7 +378,8 @@ static void check_damaged(int *kept)
 
 int main(void)
 {
-    int decks = each_stem("tests/vectors/decks/*.deck", check_vector), scans = 0, edges = 0, runs = 0, kept = 0;
+    int decks = each_stem("tests/vectors/decks/*.deck", check_vector), of_wishes = each_stem("tests/vectors/wish*/*.deck", check_vector);
+    int scans = 0, edges = 0, runs = 0, kept = 0;
     int examples = each_stem("examples/*.deck", check_example) + each_stem("examples/*/*.deck", check_example);
     check_scans(&scans);
     check_first_fit();
@@ -386,8 +387,8 @@ int main(void)
     check_edges(&edges);
     check_runs(&runs);
     check_damaged(&kept);
-    if (decks == 0 || scans == 0 || examples == 0) fail("nothing tried", "vectors or examples");
+    if (decks == 0 || of_wishes == 0 || scans == 0 || examples == 0) fail("nothing tried", "vectors or examples");
     printf("oracle test: %d decks, %d examples, %d printed, %d scans, %d scans searched, %d edges, %d runs, %d damaged tables kept, %d failures\n",
-           decks, examples, printed, scans, SEARCHED_SCANS, edges, runs, kept, failures);
+           decks + of_wishes, examples, printed, scans, SEARCHED_SCANS, edges, runs, kept, failures);
     return failures != 0;
 }

@@ -425,6 +425,7 @@ int main(int argc, char **argv)
     begin_test("step test", &lent);
     if (argc == 1) {
         if (each_stem("tests/vectors/decks/*.deck", try_vector) == 0) fail("no vectors");
+        if (each_stem("tests/vectors/wish*/*.deck", try_vector) == 0) fail("no vectors of wishes");
         try_edges();
         for (int i = 0; i < SIDES; i++) {
             side = (enum side)i;

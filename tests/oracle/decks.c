@@ -3,6 +3,7 @@
    way. */
 #define _POSIX_C_SOURCE 200809L
 #include "decks.h"
+#include "oracle.h"
 
 #include <glob.h>
 #include <stdio.h>
@@ -903,6 +904,11 @@ size_t random_input(struct draws *d, uint8_t input[INPUT_ROOM])
     if (one_in(d, n > 1000 ? 2 : 15))
         for (size_t i = 0; i < n; i++)
             if (input[i] == 10) input[i] = '1';
+    if (n > MOST_STRING + 1 && one_in(d, 2)) {
+        for (size_t i = 0; i < MOST_STRING; i++)
+            if (input[i] == 10) input[i] = '1';
+        input[MOST_STRING - 1 + draw(d, 3)] = 10;
+    }
     return n;
 }
 

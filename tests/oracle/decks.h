@@ -5,7 +5,7 @@
 #include <stddef.h>
 #include <stdint.h>
 
-enum { DECK_ROOM = 40000, INPUT_ROOM = 2048 };
+enum { DECK_ROOM = 40000, INPUT_ROOM = 4096 };
 
 /* A deck; for an edge, the number and card that document 01 gives it. */
 struct deck { size_t length; uint8_t bytes[DECK_ROOM]; int number; uint32_t card; const char *name; };
@@ -33,7 +33,7 @@ void random_deck(struct draws *d, struct deck *deck);
 /* A well-formed random deck, made to run. */
 void running_deck(struct draws *d, struct deck *deck);
 
-/* Random records, or any bytes. */
+/* Random records, some of 1,024 bytes or about as many, or any bytes. */
 size_t random_input(struct draws *d, uint8_t input[INPUT_ROOM]);
 
 /* The edge of this place, from 0; 0 if there is none. */

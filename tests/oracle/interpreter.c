@@ -411,7 +411,7 @@ static int numeric_part(struct work *w, const struct step *s)
     return is_numeric(w->m.strings[s->part.string].bytes, n);
 }
 
-/* READ (R1, R2, Q17) */
+/* READ (R1, R2, Q17); a record that loses bytes gets a note (W1.3). */
 static int read_step(struct work *w, const struct step *s)
 {
     int64_t most = s->part.bound == WHOLE ? MOST_STRING : bound_value(w, s->part.bound, s->part.n);
@@ -426,6 +426,7 @@ static int read_step(struct work *w, const struct step *s)
     memset(t, 0, sizeof *t);
     t->length = (int)smaller((int64_t)(to - from), smaller(most, MOST_STRING));
     memcpy(t->bytes, w->input + from, (size_t)t->length);
+    if (to - from > (size_t)t->length) w->notes++;
     w->m.taken = to < w->input_len ? to + 1 : to;
     return s->success;
 }

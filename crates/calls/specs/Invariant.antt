@@ -21,8 +21,8 @@ use Rattle.machine.specs.Ends.{Ending, ends, stops, AnyValue, ends_bind}
 use Rattle.machine.specs.Expressions.{length_in}
 use Rattle.machine.specs.State.{Status, stopped, finished, Memory, State, with_string, with_number, fresh, going_to, with_returns}
 use Rattle.machine.specs.State.{with_input, with_output, with_status, is_running}
-use Rattle.machine.specs.Step.{Done, moving, chosen, scanned_to, record_length, take_record, reading, shortened, put_record, returning, execution}
-use Rattle.machine.specs.Step.{statement_at, most_returns, lacks_return, turned_down_by, Stepped, concluded, step}
+use Rattle.machine.specs.Step.{Done, moving, chosen, scanned_to, record_length, Taken, take_record, cut_noted, reading, shortened, put_record}
+use Rattle.machine.specs.Step.{returning, execution, statement_at, most_returns, lacks_return, turned_down_by, Stepped, concluded, step}
 use Rattle.scanning.specs.Splits.{Split}
 use Rattle.values.specs.Conversion.{longest_string}
 use Rattle.values.specs.Numbers.{is_negative}
@@ -105,14 +105,14 @@ module _ (e : Edition) (wide : longest_string ≤ e.limit) (p : Program) (runs :
   abbrev BranchInside : Branch → Type 0
   BranchInside b = (b.success < length p.steps) × (b.failure < length p.steps)
 
-  taking_sound : (s most : ℕ) (b : Branch) (c : State) → Kept c → BranchInside b → Kept (take_record s most b c)
+  taking_sound : (s most : ℕ) (b : Branch) (c : State) → Kept c → BranchInside b → Kept (take_record s most b c).state
   unfolding take_record going_to
   taking_sound s most b c k inside =
       let n = record_length c.input in
       let v = take (min most longest_string) (take n c.input) in
       let short : length v ≤ longest_string = simp length-take (omega arith) in
       let m = with_string c.memory s v in
-      cond_cases Kept (eqb most 0 || is_nil c.input) (λ q. going_sound c b.failure c.memory k inside.1 k.memory)
+      cond_cases (λ (t : Taken). Kept t.state) (eqb most 0 || is_nil c.input) (λ q. going_sound c b.failure c.memory k inside.1 k.memory)
       (λ q.
       input_sound (going_to b.success m c) (n + 1)
       (going_sound c b.success m k inside.0 (string_bounded e c.memory s v short k.memory)))
@@ -121,7 +121,7 @@ module _ (e : Edition) (wide : longest_string ≤ e.limit) (p : Program) (runs :
   KeptDone d = Kept d.state
 
   reading_sound : (q : Part) (b : Branch) (c : State) → Kept c → BranchInside b → Ending KeptDone (reading q b c)
-  unfolding reading moving pure stops_step
+  unfolding reading cut_noted stops_step
   reading_sound (whole s) b c k inside = ends (taking_sound s longest_string b c k inside)
   reading_sound (first s n) b c k inside =
       let z = length_in c.memory n in

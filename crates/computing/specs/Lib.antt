@@ -272,6 +272,9 @@ unfolding
     Rattle.machine.specs.Expressions.string_in
     Rattle.machine.specs.Expressions.numeric_part
     Rattle.machine.specs.Expressions.test_in
+    Rattle.machine.specs.ReadLaws.take_silently
+    Rattle.machine.specs.ReadLaws.read_silently
+    Rattle.machine.specs.ReadLaws.dropped_by
     Rattle.machine.specs.Run.state_after
     Rattle.machine.specs.Run.step_counted
     Rattle.machine.specs.Run.ended_with
@@ -312,6 +315,8 @@ unfolding
     Rattle.machine.specs.Step.set_string_in
     Rattle.machine.specs.Step.record_length
     Rattle.machine.specs.Step.take_record
+    Rattle.machine.specs.Step.cut_notes
+    Rattle.machine.specs.Step.cut_noted
     Rattle.machine.specs.Step.reading
     Rattle.machine.specs.Step.shortened
     Rattle.machine.specs.Step.put_record

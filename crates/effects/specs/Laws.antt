@@ -24,7 +24,7 @@ use Rattle.numbers.specs.Numbers.{GivesInt, GivesNatural}
 use Rattle.numbers.specs.declared.Int.{Int}
 use Rattle.machine.specs.Scanning.{storing}
 use Rattle.machine.specs.State.{State, going_to, with_input, with_output, with_string}
-use Rattle.machine.specs.Step.{chosen, put_record, record_length, take_record}
+use Rattle.machine.specs.Step.{chosen, put_record, record_length, Taken, take_record}
 use Rattle.values.specs.Conversion.{longest_string}
 use Rattle.values.specs.Numbers.{is_negative}
 use Rattle.values.specs.Result.{done, stop, with_notes, pure}
@@ -96,9 +96,10 @@ is_nil_lem l h = nil_length l ∙ eq-eqb (length l) 0 h
 
 -- no record is read
 took_none : (store input : List ℕ) (place most from : ℕ) → Taking store place input from
-    → (eqb most 0 || is_nil (drop from input)) ≡ true → RecordTaken store store input place most from None
+    → (eqb most 0 || is_nil (drop from input)) ≡ true → RecordTaken store store input place most from None 0
 unfolding take_record going_to with_input chosen
 took_none store input place most from t none = (
+  refl,
   refl,
   record {
     stays = stays_same store t.good;
@@ -106,19 +107,20 @@ took_none store input place most from t none = (
     work =
         λ b c p q.
         let test : (eqb most 0 || is_nil c.input) ≡ true = ap (λ (l : List ℕ). eqb most 0 || is_nil l) q ∙ none in
-        let one : take_record place most b c ≡ moved c b.failure c.memory.strings c.input = rw test in
-        one ∙ ap₂ (λ (s : List (List ℕ)) (l : List ℕ). moved c b.failure s l) p q;
+        let left : List (List ℕ) → List ℕ → Taken = λ s l. record { state = moved c b.failure s l; dropped = 0 } in
+        let one : take_record place most b c ≡ left c.memory.strings c.input = rw test in
+        one ∙ ap₂ left p q;
   },
 )
 
 -- none is asked for, or none is left
 pub none_asked : (store input : List ℕ) (place most from : ℕ) → Taking store place input from → most ≡ 0
-    → RecordTaken store store input place most from None
+    → RecordTaken store store input place most from None 0
 none_asked store input place most from t e =
     took_none store input place most from t (ap (λ x. x || is_nil (drop from input)) (eq-eqb most 0 e))
 
 pub none_left : (store input : List ℕ) (place most from : ℕ) → Taking store place input from → length input - from ≡ 0
-    → RecordTaken store store input place most from None
+    → RecordTaken store store input place most from None 0
 none_left store input place most from t e =
     took_none store input place most from t
     (true_behind (eqb most 0) (is_nil (drop from input)) (is_nil_lem (drop from input) (length-drop from input ∙ e)))
@@ -127,13 +129,15 @@ module _ (store input : List ℕ) (place most from : ℕ) (t : Taking store plac
   -- a record is read
   pub took_some : (n : ℕ) → n ≡ record_length (drop from input) → (left : List ℕ)
       → left ≡ store_with store place (take (min n (min most 1024)) (drop from input))
-      → RecordTaken store left input place most from (Some (from + min (n + 1) (length input - from)))
+      → n ≤ length input - from
+      → RecordTaken store left input place most from (Some (from + min (n + 1) (length input - from))) (n - min most 1024)
   unfolding take_record going_to with_input with_string chosen longest_string
-  took_some n e left is =
+  took_some n e left is within =
       let r = drop from input in
       let to = from + min (n + 1) (length input - from) in
       let size : length r ≡ length input - from = length-drop from input in
-      let v = take (min n (min most 1024)) r in
+      let room = min most 1024 in
+      let v = take (min n room) r in
       let short : length v ≤ 1024 =
       simp length-take
       (omega (arith, min-le_left (min n (min most 1024)) (length r), min-le_right n (min most 1024), min-le_right most 1024)) in
@@ -147,6 +151,8 @@ module _ (store input : List ℕ) (place most from : ℕ) (t : Taking store plac
       sym (drop_min (n + 1) r)
       ∙ ap (λ (j : ℕ). drop (min (n + 1) j) r) size
       ∙ drop-drop (min (n + 1) (length input - from)) from input in
+      let size_cut : length (drop room (take n r)) ≡ n - room =
+      length-drop room (take n r) ∙ ap (λ (j : ℕ). j - room) (length-take-le n r (omega (arith, size))) in
       let some : (eqb most 0 || is_nil r) ≡ false =
       ap₂ ◌||◌ (ne_eqb most 0 (λ z. omega arith)) (not_nil r (omega arith)) in (
         far,
@@ -155,17 +161,19 @@ module _ (store input : List ℕ) (place most from : ℕ) (t : Taking store plac
           inside = omega (arith, min-le_right (n + 1) (length input - from));
           work =
               λ b c p q.
-              let read : (ss : List (List ℕ)) (l : List ℕ) → State =
-              λ ss l.
-              moved c b.success (set ss place (take (min most 1024) (take (record_length l) l))) (drop (record_length l + 1) l) in
+              let left_with : List (List ℕ) → List ℕ → ℕ → Taken = λ ss l d. record { state = moved c b.success ss l; dropped = d } in
+              let read_of : ℕ → List (List ℕ) → List ℕ → Taken =
+              λ j ss l. left_with (set ss place (take room (take j l))) (drop (j + 1) l) (length (drop room (take j l))) in
               let test : (eqb most 0 || is_nil c.input) ≡ false = ap (λ (l : List ℕ). eqb most 0 || is_nil l) q ∙ some in
-              let one : take_record place most b c ≡ read c.memory.strings c.input = rw test in
-              let first : take (min most 1024) (take n r) ≡ v = take-least r (min most 1024) n in
+              let one : take_record place most b c ≡ read_of (record_length c.input) c.memory.strings c.input = rw test in
+              let first : take room (take n r) ≡ v = take-least r room n in
+              let two : read_of n (strings_in store) r ≡ left_with (set (strings_in store) place v) (drop to input) (n - room) =
+              λ i. left_with (set (strings_in store) place (first i)) (rest i) (size_cut i) in
               one
-              ∙ ap₂ read p q
-              ∙ ap (λ (j : ℕ). moved c b.success (set (strings_in store) place (take (min most 1024) (take j r))) (drop (j + 1) r)) (sym e)
-              ∙ ap₂ (λ (w l : List ℕ). moved c b.success (set (strings_in store) place w) l) first rest
-              ∙ ap (λ (ss : List (List ℕ)). moved c b.success ss (drop to input)) strings;
+              ∙ ap₂ (λ ss l. read_of (record_length l) ss l) p q
+              ∙ ap (λ (j : ℕ). read_of j (strings_in store) r) (sym e)
+              ∙ two
+              ∙ ap (λ (ss : List (List ℕ)). left_with ss (drop to input) (n - room)) strings;
         },
       )
 

@@ -44,18 +44,22 @@ pub record Taking (store : List ℕ) (place : ℕ) (input : List ℕ) (from : �
   pub known : place < 32
   pub inside : from ≤ length input
 
--- the machine goes on by one of its branches, and reads on at a place of the input
-pub record ReadsOn (takes : Bool) (store left input : List ℕ) (place most from to : ℕ) : Type 0 where
+-- the machine goes on by one of its branches, and reads on at a place of the input; so many bytes of the record are dropped
+pub record ReadsOn (takes : Bool) (store left input : List ℕ) (place most from to dropped : ℕ) : Type 0 where
   pub stays : StoreStays store left
   pub inside : to ≤ length input
   pub work : (b : Branch) (c : State) → c.memory.strings ≡ strings_in store → c.input ≡ drop from input
       → take_record place most b c
-      ≡ with_input (drop to input) (going_to (chosen takes b) (memory_of left c.memory.numbers) c)
+      ≡ record {
+        state = with_input (drop to input) (going_to (chosen takes b) (memory_of left c.memory.numbers) c);
+        dropped = dropped;
+      }
 
--- a record read, with the place behind it; or none, and then nothing changes
-abbrev pub RecordTaken : (store left input : List ℕ) → (place most from : ℕ) → Option ℕ → Type 0
-RecordTaken store left input place most from None = (left ≡ store) × ReadsOn false store left input place most from from
-RecordTaken store left input place most from (Some to) = (from < to) × ReadsOn true store left input place most from to
+-- a record read, with the place behind it and how many of its bytes are dropped; or none, and then nothing changes and none is dropped
+abbrev pub RecordTaken : (store left input : List ℕ) → (place most from : ℕ) → Option ℕ → (dropped : ℕ) → Type 0
+RecordTaken store left input place most from None dropped =
+    (left ≡ store) × (dropped ≡ 0) × ReadsOn false store left input place most from from dropped
+RecordTaken store left input place most from (Some to) dropped = (from < to) × ReadsOn true store left input place most from to dropped
 
 -- a record put: the machine's output is what stands before the place behind it
 pub record Wrote (bytes left : List ℕ) (at to : ℕ) (v : List ℕ) : Type 0 where

@@ -54,7 +54,7 @@ stored_between table store state place from to s =
 pub record ValueStored (r : Completion) (store left state : List ℕ) (w : Result Memory) : Type 0 where
   pub leaves : LeavesStore r store left (numbers_in state) w
 
--- the note that a record's tail is dropped
+-- the note that the tail of a record put is dropped
 unfoldable pub tail_notes : ℕ → ℕ
 tail_notes n = cond (ltb 1024 n) 1 0
 

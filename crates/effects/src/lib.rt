@@ -22,6 +22,13 @@ use decoder::Length;
 use encoding::STATE_SIZE;
 use values::{Noted, Stop};
 
+// what taking a record comes to: the place behind it, None if none is taken, and how many of its bytes are dropped
+#[derive(Clone, Copy)]
+pub struct Taken {
+    pub to: Option<usize>,
+    pub dropped: usize,
+}
+
 // the bytes from..to of the string with this place
 // kept: that it lies in its string (Between) is no ghost field: that is a fact of the store too
 #[derive(Clone, Copy)]
@@ -40,26 +47,27 @@ fn asked(state: &[u64; STATE_SIZE], n: Length) -> Result<usize, Stop>
     numbers::natural(evaluator::length_value(state, n)).ok_or(Stop::NegativeLength)
 }
 
-// Takes the record at a place of the input into a string, its first 1,024 bytes or fewer if so few are asked for. Gives the place
-// behind it, or None if there is no record or none is asked for: then nothing changes.
-pub fn take_record(
-    store: &mut [u8],
-    place: usize,
-    input: &[u8],
-    from: usize,
-    most: usize,
-) -> Option<usize>
+// Takes the record at a place of the input into a string, its first 1,024 bytes or fewer if so few are asked for, and drops the others.
+// If there is no record or none is asked for, nothing changes, and nothing is dropped.
+pub fn take_record(store: &mut [u8], place: usize, input: &[u8], from: usize, most: usize) -> Taken
     requires { Taking store.old place input.now from }
-    ensures { RecordTaken store.old store.new input.now place most from result }
+    ensures { RecordTaken store.old store.new input.now place most from result.to result.dropped }
 {
     let left = input.len() - from;
     if most == 0 || left == 0 {
-        return None;
+        return Taken {
+            to: None,
+            dropped: 0,
+        };
     }
+    let room = most.min(LONGEST);
     let n = store::spans::next_record(input, from);
-    let to = from + n.min(most.min(LONGEST));
+    let to = from + n.min(room);
     store::put(store, place, &input[from..to]);
-    Some(from + (n + 1).min(left))
+    Taken {
+        to: Some(from + (n + 1).min(left)),
+        dropped: n.saturating_sub(room),
+    }
 }
 
 // Puts a record and byte 10 behind the bytes of the output, and gives its new length; a null record puts nothing.

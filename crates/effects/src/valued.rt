@@ -82,7 +82,7 @@ pub fn set_string(
     set_value(table, store, state, at, s, out)
 }
 
-// a note if a record is so long that its tail is dropped
+// a note if a record to be put is so long that its tail is dropped
 #[tactic(auto, unfolding(crate::specs::Valued::tail_notes))]
 fn tail_notes(n: usize) -> u32
     ensures { (result ≡ tail_notes n) × (result ≤ 1) }

@@ -20,14 +20,15 @@ use Rattle.syntax.specs.Program.{Program, Branch, Part}
 use Rattle.machine.specs.Expressions.{numeric_in, string_in, test_in}
 use Rattle.machine.specs.State as Machine
 use Rattle.machine.specs.State.{State, Memory, finished, is_running, with_number, going_to, with_returns, with_input, with_output, with_status}
-use Rattle.machine.specs.Step.{Done, most_returns, no_scan, moving, chosen, set_string_in, shortened, put_record, returning, execution}
+use Rattle.machine.specs.Step.{Done, most_returns, no_scan, moving, chosen, set_string_in, reading, shortened, put_record, returning, execution}
 use Rattle.effects.specs.Laws.{left_is, stays_same}
 use Rattle.effects.specs.Leaving.{Completion, StoreStays, memory_of}
-use Rattle.effects.specs.Reading.{MachineHas, Moves, Halts, onward}
+use Rattle.effects.specs.Reading.{MachineHas, Goes, Halts, onward}
 use Rattle.effects.specs.Valued.{Assigns, RecordPutBy, ValueStored}
 use Rattle.state.specs.Clauses.{Popped}
 use Rattle.state.specs.Laws.{StateLeaves, leaves_all, holding-leaves, leaves_going, leaves_finished, leaves_stopped, leaves_input, leaves_output, leaves_number, leaves_push, leaves_return, numbers_stay}
 use Rattle.values.specs.Result.{Result, done, stop, pure, ◌>>=◌}
+use Rattle.values.specs.declared.Noted.{Noted}
 use Rattle.values.specs.Stops.{stop_number}
 use Rattle.values.specs.ResultLaws.{bound, stopped, bound-twice}
 use Rattle.execution.specs.Executing.{StatementStanding, machine_in, Moved, Unmoved, Executes, moved_on}
@@ -170,13 +171,13 @@ module _ (p : Program) (input : List ℕ) (b : Buffers) (s : StatementStanding p
   unfolding state_in
   has_all = record { memory = refl; input_left = refl }
 
-  pub reads : (takes : Bool) (store state : List ℕ) (q : Part) (f : Branch) → Moves takes b.store store b.state state input q
-      → Moved input b (buffers store (set state 1 (chosen takes f)) b.output) 0
+  pub reads : (r : Noted Bool) (store state : List ℕ) (q : Part) (f : Branch) → Goes r b.store store b.state state input (reading q)
+      → Moved input b (buffers store (set state 1 (chosen r.value f)) b.output) r.notes
       (execution current (length b.output) (Program.read q f) (machine_in input b))
-  unfolding execution moving pure going_to with_input state_in
-  reads takes store state q f a =
-      let k = chosen takes f in
-      let m = onward takes store state input f c in
+  unfolding execution going_to with_input state_in
+  reads r store state q f a =
+      let k = chosen r.value f in
+      let m = onward r.value store state input f c in
       let here : get_or state 3 0 ≡ a.to = ap (λ (l : List ℕ). get_or l 3 0) a.state_is ∙ get_or-set_same b.state 3 a.to 0 (omega (arith, s.size)) in
       let numbers : numbers_in state ≡ numbers_in b.state = ap numbers_in a.state_is ∙ numbers_stay b.state 3 a.to (omega arith) in
       let place : get_or state 3 0 ≡ length input - length (drop (get_or state 3 0) input) = simp length-drop (omega (arith, a.inside)) in

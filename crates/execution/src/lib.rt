@@ -161,9 +161,9 @@ pub fn read(
     ensures { (output : List ℕ) → Does (Program.read (part_meaning p) (branch_meaning b)) result
         (buffers store.old state.old output) (buffers store.new state.new output) input.now }
 {
-    let success = effects::reading::read_record(store, state, input, p)?;
-    take_branch(state, success, b);
-    Ok(0)
+    let record = effects::reading::read_record(store, state, input, p)?;
+    take_branch(state, record.value, b);
+    Ok(record.notes)
 }
 
 // WRITE and PRINT

@@ -17,8 +17,8 @@ use Rattle.syntax.specs.Scopes.{BranchStays, Leads, Nested, Scoped}
 use Rattle.machine.specs.Expressions.{length_in, numeric_in, test_in, string_in}
 use Rattle.machine.specs.Scanning.{scanning_in}
 use Rattle.machine.specs.State.{State, is_running, fresh, going_to, with_returns, with_input, with_output, with_status}
-use Rattle.machine.specs.Step.{Done, moving, chosen, scanned_to, set_string_in, take_record, reading, shortened, put_record, returning, execution}
-use Rattle.machine.specs.Step.{statement_at, most_returns, lacks_return, turned_down_by, Stepped, concluded, step}
+use Rattle.machine.specs.Step.{Done, moving, chosen, scanned_to, set_string_in, Taken, take_record, cut_noted, reading, shortened, put_record}
+use Rattle.machine.specs.Step.{returning, execution, statement_at, most_returns, lacks_return, turned_down_by, Stepped, concluded, step}
 use Rattle.scanning.specs.Splits.{Split}
 use Rattle.values.specs.Conversion.{longest_string}
 use Rattle.values.specs.Numbers.{is_negative}
@@ -73,10 +73,10 @@ module _ (scope : ℕ → List ℕ) (Executes : (first second : List ℕ) → Ty
   scanned_nested (some s) b here rs stays h = nested_stays here b.success rs stays.0 h
 
   taking_nested : (s most : ℕ) (b : Branch) (c : State) → BranchStays scope Executes c.next b → NestedIn c
-      → NestedIn (take_record s most b c)
+      → NestedIn (take_record s most b c).state
   unfolding take_record going_to with_input
   taking_nested s most b c stays h =
-      cond_cases NestedIn (eqb most 0 || is_nil c.input)
+      cond_cases (λ (t : Taken). NestedIn t.state) (eqb most 0 || is_nil c.input)
       (λ _. nested_stays c.next b.failure c.returns stays.1 h)
       (λ _. nested_stays c.next b.success c.returns stays.0 h)
 
@@ -85,7 +85,7 @@ module _ (scope : ℕ → List ℕ) (Executes : (first second : List ℕ) → Ty
 
   reading_nested : (q : Part) (b : Branch) (c : State) → BranchStays scope Executes c.next b → NestedIn c
       → Comes NestedDone (reading q b c)
-  unfolding reading moving pure
+  unfolding reading cut_noted
   reading_nested (whole s) b c stays h = comes (taking_nested s longest_string b c stays h)
   reading_nested (first s n) b c stays h =
       let z = length_in c.memory n in

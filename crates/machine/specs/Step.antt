@@ -89,22 +89,39 @@ unfoldable pub record_length : List ℕ → ℕ
 record_length [] = 0
 record_length (b ∷ bs) = elim (eqb b newline) [ true ↦ 0 | false ↦ suc (record_length bs) ]
 
+-- what taking a record gives: the state behind it, and W1.2 "the number of the record's bytes dropped"
+pub record Taken : Type 0 where
+  pub state : State
+  pub dropped : ℕ
+
 -- R2 "It keeps its first 1,024 bytes, or n if less for a substring, and replaces the whole string. n = 0 or no bytes left: branch f,
--- nothing taken or changed."
-unfoldable pub take_record : ℕ → ℕ → Branch → State → State
+-- nothing taken or changed." W1.2 "past 1,024 or past a substring's n (0 if no record is taken)"
+unfoldable pub take_record : ℕ → ℕ → Branch → State → Taken
 take_record s most b c =
     let n = record_length c.input in
+    let r = take n c.input in
+    let room = min most longest_string in
     cond (eqb most 0 || is_nil c.input)
-    (going_to b.failure c.memory c)
-    (with_input (drop (n + 1) c.input)
-    (going_to b.success (with_string c.memory s (take (min most longest_string) (take n c.input))) c))
+    (record { state = going_to b.failure c.memory c; dropped = 0 })
+    (record {
+      state = with_input (drop (n + 1) c.input) (going_to b.success (with_string c.memory s (take room r)) c);
+      dropped = length (drop room r);
+    })
+
+-- W1.3 "READ adds one note to its step when that number isn't 0."
+unfoldable pub cut_notes : ℕ → ℕ
+cut_notes dropped = cond (eqb dropped 0) 0 1
+
+-- what a READ comes to: the state behind the record, with that note
+unfoldable pub cut_noted : Taken → Result Done
+cut_noted t = done (record { state = t.state; scanned = no_scan }) (cut_notes t.dropped)
 
 -- Q17 "The .. READ length is negative"
 unfoldable pub reading : Part → Branch → State → Result Done
-reading (whole s) b c = moving (take_record s longest_string b c)
+reading (whole s) b c = cut_noted (take_record s longest_string b c)
 reading (first s n) b c =
     let z = length_in c.memory n in
-    cond (is_negative z) (stop 17) (moving (take_record s (nat_abs z) b c))
+    cond (is_negative z) (stop 17) (cut_noted (take_record s (nat_abs z) b c))
 
 -- R3 "beyond 1,024 bytes the tail is dropped with a note"
 unfoldable pub shortened : List ℕ → Result (List ℕ)

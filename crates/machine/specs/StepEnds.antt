@@ -12,8 +12,8 @@ use Rattle.machine.specs.Ends.{Ending, ends, stops, both-done, done_value, stop_
 use Rattle.machine.specs.Expressions.{length_in, numeric_in, test_in, string_in}
 use Rattle.machine.specs.Scanning.{scanning_in}
 use Rattle.machine.specs.State.{finished, stopped, is_running, State, going_to, with_returns, with_input, with_output, with_status}
-use Rattle.machine.specs.Step.{no_scan, Done, moving, set_string_in, take_record, reading, shortened, put_record, returning, execution}
-use Rattle.machine.specs.Step.{statement_at, lacks_return, turned_down_by, Stepped, concluded, step}
+use Rattle.machine.specs.Step.{no_scan, Done, moving, set_string_in, Taken, take_record, cut_noted, reading, shortened, put_record, returning}
+use Rattle.machine.specs.Step.{execution, statement_at, lacks_return, turned_down_by, Stepped, concluded, step}
 use Rattle.values.specs.Conversion.{longest_string}
 use Rattle.values.specs.Numbers.{is_negative}
 use Rattle.values.specs.Result.{stops_step, Result, done, stop, pure}
@@ -93,17 +93,21 @@ unfolding moving pure
 moved s d n q = ap (λ x. x.state) (sym (done_value q))
 
 -- READ and WRITE and RETURN leave the status
-taking_status : (s most : ℕ) (b : Branch) (c : State) → (take_record s most b c).status ≡ c.status
+taking_status : (s most : ℕ) (b : Branch) (c : State) → (take_record s most b c).state.status ≡ c.status
 unfolding take_record going_to with_input
-taking_status s most b c = cond_cases (λ (x : State). x.status ≡ c.status) (eqb most 0 || is_nil c.input) (λ q. refl) (λ q. refl)
+taking_status s most b c = cond_cases (λ (t : Taken). t.state.status ≡ c.status) (eqb most 0 || is_nil c.input) (λ q. refl) (λ q. refl)
+
+cut_noted_state : (t : Taken) (d : Done) (n : ℕ) → cut_noted t ≡ done d n → d.state ≡ t.state
+unfolding cut_noted
+cut_noted_state t d n q = ap (λ x. x.state) (sym (done_value q))
 
 reading-status : (q : Part) (b : Branch) (c : State) (d : Done) (n : ℕ) → reading q b c ≡ done d n → d.state.status ≡ c.status
 unfolding reading
-reading-status (whole s) b c d n h = ap (λ x. x.status) (moved _ d n h) ∙ taking_status s longest_string b c
+reading-status (whole s) b c d n h = ap (λ x. x.status) (cut_noted_state _ d n h) ∙ taking_status s longest_string b c
 reading-status (first s k) b c d n h =
     let z = length_in c.memory k in
     cond_cases (λ w. w ≡ done d n → d.state.status ≡ c.status) (is_negative z) (λ q h. absurd (stop_not_done 17 d n h))
-    (λ q h. ap (λ x. x.status) (moved _ d n h) ∙ taking_status s (nat_abs z) b c) h
+    (λ q h. ap (λ x. x.status) (cut_noted_state _ d n h) ∙ taking_status s (nat_abs z) b c) h
 
 putting_status : (lent : ℕ) (v : List ℕ) (c d : State) (n : ℕ) → put_record lent v c ≡ done d n → d.status ≡ c.status
 unfolding put_record pure with_output

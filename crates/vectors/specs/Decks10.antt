@@ -14,7 +14,7 @@ r88 : agrees_whole "         PROGRAM T\nL        READ X/L\n         END\n" "A\n"
 unfolding agrees_whole
 r88 = refl
 
-r89 : agrees_whole "         PROGRAM T\n         READ X$2\n         READ Y\n         PRINT X,Y\n         END\n" "ABCD\nEF\n" "step 1: n=0 notes=0 split=- trials=0 in=5 out=0 state=running next=3 held=[] numbers={} strings={X:4142,Y:}\nstep 2: n=0 notes=0 split=- trials=0 in=8 out=0 state=running next=4 held=[] numbers={} strings={X:4142,Y:4546}\nstep 3: n=0 notes=0 split=- trials=0 in=8 out=5 state=running next=5 held=[] numbers={} strings={X:4142,Y:4546}\nstep 4: n=0 notes=0 split=- trials=0 in=8 out=5 state=finished next=5 held=[] numbers={} strings={X:4142,Y:4546}\n" "ABEF\nFINISHED,0,4,0\n" ≡ true
+r89 : agrees_whole "         PROGRAM T\n         READ X$2\n         READ Y\n         PRINT X,Y\n         END\n" "ABCD\nEF\n" "step 1: n=0 notes=1 split=- trials=0 in=5 out=0 state=running next=3 held=[] numbers={} strings={X:4142,Y:}\nstep 2: n=0 notes=0 split=- trials=0 in=8 out=0 state=running next=4 held=[] numbers={} strings={X:4142,Y:4546}\nstep 3: n=0 notes=0 split=- trials=0 in=8 out=5 state=running next=5 held=[] numbers={} strings={X:4142,Y:4546}\nstep 4: n=0 notes=0 split=- trials=0 in=8 out=5 state=finished next=5 held=[] numbers={} strings={X:4142,Y:4546}\n" "ABEF\nFINISHED,0,4,1\n" ≡ true
 unfolding agrees_whole
 r89 = refl
 

@@ -10,7 +10,7 @@ v010 : agrees "         PROGRAM P\n         NUMBER N,M\n* COMMENT 0\nLOOP     RO
 unfolding agrees
 v010 = refl
 
-v011 : agrees "         PROGRAM P                                                      SEQ90092\n         NUMBER N,M,I\n         READ A/L  2                                                    SEQ00265\n         B$I=STRING(-3,N)\n L2      S1= B,STRING  (  0,N)\n         SCAN A[]\nDONE     A=\"A1A\",\"12\",A\nX9       READ(60) LINE$2/,DONE\nL3       SCAN LINE[\"\"\",(A)]\n         ROUTINE R1\n                                                                        SEQ\n L1      BACKS CAN S1 [(B  ) ]/L1\n* COMMENT 2\nLOOP     B  $5=\"/2\",  LINE,\"1A\"                                         SEQ17982\n* COMMENT 6\n         ENDROUTINE\n         SCAN A[LINE$2,LINE]=\"A*A\",STRING(7,N),STRING(0,I),B$N          SEQ10864\n         A=STRING(  M)\n         BACKSCAN C$M[(LINE),\"B\"]/L3\n         SCAN C[C]=STRING(I)/L2,L3\n         IF(LENGTH(A)>=+6)/,L3\n        +SCAN B$2[]=\"AA\",STRING(\n         I),STRING(0,M),C\n         END\n" "A1-,,+B 1 B,2,--BB01BA0AAB0+1+A0 10,ABB,\n2\nAAA+1 AA0A-A\nBA2A0,AB0,A1" "step 1: n=0 notes=0 split=- trials=0 in=41 out=0 state=running next=5 held=[] numbers={N:0,M:0,I:0} strings={A:41312d2c2c2b42203120422c322c2d2d42423031424130414142302b312b41302031302c4142422c,B:,S1:,LINE:,C:}\nstep 2: n=0 notes=0 split=- trials=0 in=41 out=0 state=running next=6 held=[] numbers={N:0,M:0,I:0} strings={A:41312d2c2c2b42203120422c322c2d2d42423031424130414142302b312b41302031302c4142422c,B:,S1:30,LINE:,C:}\nstep 3: n=0 notes=0 split=0; trials=0 in=41 out=0 state=running next=7 held=[] numbers={N:0,M:0,I:0} strings={A:41312d2c2c2b42203120422c322c2d2d42423031424130414142302b312b41302031302c4142422c,B:,S1:30,LINE:,C:}\nstep 4: n=0 notes=0 split=- trials=0 in=41 out=0 state=running next=8 held=[] numbers={N:0,M:0,I:0} strings={A:413141313241312d2c2c2b42203120422c322c2d2d42423031424130414142302b312b41302031302c4142422c,B:,S1:30,LINE:,C:}\nstep 5: n=0 notes=0 split=- trials=0 in=43 out=0 state=running next=9 held=[] numbers={N:0,M:0,I:0} strings={A:413141313241312d2c2c2b42203120422c322c2d2d42423031424130414142302b312b41302031302c4142422c,B:,S1:30,LINE:32,C:}\nstep 6: n=0 notes=0 split=- trials=2 in=43 out=0 state=running next=10 held=[] numbers={N:0,M:0,I:0} strings={A:,B:,S1:30,LINE:32,C:}\nstep 7: n=0 notes=0 split=- trials=0 in=43 out=0 state=running next=17 held=[] numbers={N:0,M:0,I:0} strings={A:,B:,S1:30,LINE:32,C:}\nstep 8: n=0 notes=0 split=- trials=1 in=43 out=0 state=running next=18 held=[] numbers={N:0,M:0,I:0} strings={A:,B:,S1:30,LINE:32,C:}\nstep 9: n=0 notes=0 split=- trials=0 in=43 out=0 state=running next=19 held=[] numbers={N:0,M:0,I:0} strings={A:30,B:,S1:30,LINE:32,C:}\nstep 10: n=0 notes=0 split=- trials=1 in=43 out=0 state=running next=20 held=[] numbers={N:0,M:0,I:0} strings={A:30,B:,S1:30,LINE:,C:}\nstep 11: n=0 notes=0 split=0;0 trials=1 in=43 out=0 state=running next=5 held=[] numbers={N:0,M:0,I:0} strings={A:30,B:,S1:30,LINE:,C:30}\nstep 12: n=0 notes=0 split=- trials=0 in=43 out=0 state=running next=6 held=[] numbers={N:0,M:0,I:0} strings={A:30,B:,S1:30,LINE:,C:30}\nstep 13: n=0 notes=0 split=0; trials=0 in=43 out=0 state=running next=7 held=[] numbers={N:0,M:0,I:0} strings={A:30,B:,S1:30,LINE:,C:30}\nstep 14: n=0 notes=0 split=- trials=0 in=43 out=0 state=running next=8 held=[] numbers={N:0,M:0,I:0} strings={A:413141313230,B:,S1:30,LINE:,C:30}\nstep 15: n=0 notes=0 split=- trials=0 in=56 out=0 state=running next=9 held=[] numbers={N:0,M:0,I:0} strings={A:413141313230,B:,S1:30,LINE:4141,C:30}\nstep 16: n=0 notes=0 split=- trials=3 in=56 out=0 state=running next=10 held=[] numbers={N:0,M:0,I:0} strings={A:,B:,S1:30,LINE:4141,C:30}\nstep 17: n=0 notes=0 split=- trials=0 in=56 out=0 state=running next=17 held=[] numbers={N:0,M:0,I:0} strings={A:,B:,S1:30,LINE:4141,C:30}\nstep 18: n=0 notes=0 split=- trials=1 in=56 out=0 state=running next=18 held=[] numbers={N:0,M:0,I:0} strings={A:,B:,S1:30,LINE:4141,C:30}\nstep 19: n=0 notes=0 split=- trials=0 in=56 out=0 state=running next=19 held=[] numbers={N:0,M:0,I:0} strings={A:30,B:,S1:30,LINE:4141,C:30}\nstep 20: n=0 notes=0 split=- trials=1 in=56 out=0 state=running next=20 held=[] numbers={N:0,M:0,I:0} strings={A:30,B:,S1:30,LINE:,C:30}\nstep 21: n=0 notes=0 split=0;1 trials=1 in=56 out=0 state=running next=5 held=[] numbers={N:0,M:0,I:0} strings={A:30,B:,S1:30,LINE:,C:30}\nstep 22: n=0 notes=0 split=- trials=0 in=56 out=0 state=running next=6 held=[] numbers={N:0,M:0,I:0} strings={A:30,B:,S1:30,LINE:,C:30}\nstep 23: n=0 notes=0 split=0; trials=0 in=56 out=0 state=running next=7 held=[] numbers={N:0,M:0,I:0} strings={A:30,B:,S1:30,LINE:,C:30}\nstep 24: n=0 notes=0 split=- trials=0 in=56 out=0 state=running next=8 held=[] numbers={N:0,M:0,I:0} strings={A:413141313230,B:,S1:30,LINE:,C:30}\nstep 25: n=0 notes=0 split=- trials=0 in=68 out=0 state=running next=9 held=[] numbers={N:0,M:0,I:0} strings={A:413141313230,B:,S1:30,LINE:4241,C:30}\nstep 26: n=0 notes=0 split=- trials=3 in=68 out=0 state=running next=10 held=[] numbers={N:0,M:0,I:0} strings={A:,B:,S1:30,LINE:4241,C:30}\nstep 27: n=0 notes=0 split=- trials=0 in=68 out=0 state=running next=17 held=[] numbers={N:0,M:0,I:0} strings={A:,B:,S1:30,LINE:4241,C:30}\nstep 28: n=0 notes=0 split=- trials=1 in=68 out=0 state=running next=18 held=[] numbers={N:0,M:0,I:0} strings={A:,B:,S1:30,LINE:4241,C:30}\nstep 29: n=0 notes=0 split=- trials=0 in=68 out=0 state=running next=19 held=[] numbers={N:0,M:0,I:0} strings={A:30,B:,S1:30,LINE:4241,C:30}\nstep 30: n=0 notes=0 split=- trials=1 in=68 out=0 state=running next=20 held=[] numbers={N:0,M:0,I:0} strings={A:30,B:,S1:30,LINE:,C:30}\nstep 31: n=0 notes=0 split=0;1 trials=1 in=68 out=0 state=running next=5 held=[] numbers={N:0,M:0,I:0} strings={A:30,B:,S1:30,LINE:,C:30}\nstep 32: n=0 notes=0 split=- trials=0 in=68 out=0 state=running next=6 held=[] numbers={N:0,M:0,I:0} strings={A:30,B:,S1:30,LINE:,C:30}\nstep 33: n=0 notes=0 split=0; trials=0 in=68 out=0 state=running next=7 held=[] numbers={N:0,M:0,I:0} strings={A:30,B:,S1:30,LINE:,C:30}\nstep 34: n=0 notes=0 split=- trials=0 in=68 out=0 state=running next=8 held=[] numbers={N:0,M:0,I:0} strings={A:413141313230,B:,S1:30,LINE:,C:30}\nstep 35: n=0 notes=0 split=- trials=0 in=68 out=0 state=running next=7 held=[] numbers={N:0,M:0,I:0} strings={A:413141313230,B:,S1:30,LINE:,C:30}\nstep 36: n=0 notes=0 split=- trials=0 in=68 out=0 state=running next=8 held=[] numbers={N:0,M:0,I:0} strings={A:4131413132413141313230,B:,S1:30,LINE:,C:30}\nstep 37: n=0 notes=0 split=- trials=0 in=68 out=0 state=running next=7 held=[] numbers={N:0,M:0,I:0} strings={A:4131413132413141313230,B:,S1:30,LINE:,C:30}\nstep 38: n=0 notes=0 split=- trials=0 in=68 out=0 state=running next=8 held=[] numbers={N:0,M:0,I:0} strings={A:41314131324131413132413141313230,B:,S1:30,LINE:,C:30}\nstep 39: n=0 notes=0 split=- trials=0 in=68 out=0 state=running next=7 held=[] numbers={N:0,M:0,I:0} strings={A:41314131324131413132413141313230,B:,S1:30,LINE:,C:30}\nstep 40: n=0 notes=0 split=- trials=0 in=68 out=0 state=running next=8 held=[] numbers={N:0,M:0,I:0} strings={A:413141313241314131324131413132413141313230,B:,S1:30,LINE:,C:30}\nstep 41: n=0 notes=0 split=- trials=0 in=68 out=0 state=running next=7 held=[] numbers={N:0,M:0,I:0} strings={A:413141313241314131324131413132413141313230,B:,S1:30,LINE:,C:30}\nstep 42: n=0 notes=0 split=- trials=0 in=68 out=0 state=running next=8 held=[] numbers={N:0,M:0,I:0} strings={A:4131413132413141313241314131324131413132413141313230,B:,S1:30,LINE:,C:30}\nstep 43: n=0 notes=0 split=- trials=0 in=68 out=0 state=running next=7 held=[] numbers={N:0,M:0,I:0} strings={A:4131413132413141313241314131324131413132413141313230,B:,S1:30,LINE:,C:30}\nstep 44: n=0 notes=0 split=- trials=0 in=68 out=0 state=running next=8 held=[] numbers={N:0,M:0,I:0} strings={A:41314131324131413132413141313241314131324131413132413141313230,B:,S1:30,LINE:,C:30}\nstep 45: n=0 notes=0 split=- trials=0 in=68 out=0 state=running next=7 held=[] numbers={N:0,M:0,I:0} strings={A:41314131324131413132413141313241314131324131413132413141313230,B:,S1:30,LINE:,C:30}\nstep 46: n=0 notes=0 split=- trials=0 in=68 out=0 state=running next=8 held=[] numbers={N:0,M:0,I:0} strings={A:413141313241314131324131413132413141313241314131324131413132413141313230,B:,S1:30,LINE:,C:30}\nstep 47: n=0 notes=0 split=- trials=0 in=68 out=0 state=running next=7 held=[] numbers={N:0,M:0,I:0} strings={A:413141313241314131324131413132413141313241314131324131413132413141313230,B:,S1:30,LINE:,C:30}\nstep 48: n=0 notes=0 split=- trials=0 in=68 out=0 state=running next=8 held=[] numbers={N:0,M:0,I:0} strings={A:4131413132413141313241314131324131413132413141313241314131324131413132413141313230,B:,S1:30,LINE:,C:30}\nstep 49: n=0 notes=0 split=- trials=0 in=68 out=0 state=running next=7 held=[] numbers={N:0,M:0,I:0} strings={A:4131413132413141313241314131324131413132413141313241314131324131413132413141313230,B:,S1:30,LINE:,C:30}\nstep 50: n=0 notes=0 split=- trials=0 in=68 out=0 state=running next=8 held=[] numbers={N:0,M:0,I:0} strings={A:41314131324131413132413141313241314131324131413132413141313241314131324131413132413141313230,B:,S1:30,LINE:,C:30}\nstep 51: n=0 notes=0 split=- trials=0 in=68 out=0 state=running next=7 held=[] numbers={N:0,M:0,I:0} strings={A:41314131324131413132413141313241314131324131413132413141313241314131324131413132413141313230,B:,S1:30,LINE:,C:30}\nstep 52: n=0 notes=0 split=- trials=0 in=68 out=0 state=running next=8 held=[] numbers={N:0,M:0,I:0} strings={A:413141313241314131324131413132413141313241314131324131413132413141313241314131324131413132413141313230,B:,S1:30,LINE:,C:30}\nstep 53: n=0 notes=0 split=- trials=0 in=68 out=0 state=running next=7 held=[] numbers={N:0,M:0,I:0} strings={A:413141313241314131324131413132413141313241314131324131413132413141313241314131324131413132413141313230,B:,S1:30,LINE:,C:30}\nstep 54: n=0 notes=0 split=- trials=0 in=68 out=0 state=running next=8 held=[] numbers={N:0,M:0,I:0} strings={A:4131413132413141313241314131324131413132413141313241314131324131413132413141313241314131324131413132413141313230,B:,S1:30,LINE:,C:30}\nstep 55: n=0 notes=0 split=- trials=0 in=68 out=0 state=running next=7 held=[] numbers={N:0,M:0,I:0} strings={A:4131413132413141313241314131324131413132413141313241314131324131413132413141313241314131324131413132413141313230,B:,S1:30,LINE:,C:30}\nstep 56: n=0 notes=0 split=- trials=0 in=68 out=0 state=running next=8 held=[] numbers={N:0,M:0,I:0} strings={A:41314131324131413132413141313241314131324131413132413141313241314131324131413132413141313241314131324131413132413141313230,B:,S1:30,LINE:,C:30}\nstep 57: n=0 notes=0 split=- trials=0 in=68 out=0 state=running next=7 held=[] numbers={N:0,M:0,I:0} strings={A:41314131324131413132413141313241314131324131413132413141313241314131324131413132413141313241314131324131413132413141313230,B:,S1:30,LINE:,C:30}\nstep 58: n=0 notes=0 split=- trials=0 in=68 out=0 state=running next=8 held=[] numbers={N:0,M:0,I:0} strings={A:413141313241314131324131413132413141313241314131324131413132413141313241314131324131413132413141313241314131324131413132413141313230,B:,S1:30,LINE:,C:30}\nstep 59: n=0 notes=0 split=- trials=0 in=68 out=0 state=running next=7 held=[] numbers={N:0,M:0,I:0} strings={A:413141313241314131324131413132413141313241314131324131413132413141313241314131324131413132413141313241314131324131413132413141313230,B:,S1:30,LINE:,C:30}\nstep 60: n=0 notes=0 split=- trials=0 in=68 out=0 state=running next=8 held=[] numbers={N:0,M:0,I:0} strings={A:4131413132413141313241314131324131413132413141313241314131324131413132413141313241314131324131413132413141313241314131324131413132413141313230,B:,S1:30,LINE:,C:30}\n" ≡ true
+v011 : agrees "         PROGRAM P                                                      SEQ90092\n         NUMBER N,M,I\n         READ A/L  2                                                    SEQ00265\n         B$I=STRING(-3,N)\n L2      S1= B,STRING  (  0,N)\n         SCAN A[]\nDONE     A=\"A1A\",\"12\",A\nX9       READ(60) LINE$2/,DONE\nL3       SCAN LINE[\"\"\",(A)]\n         ROUTINE R1\n                                                                        SEQ\n L1      BACKS CAN S1 [(B  ) ]/L1\n* COMMENT 2\nLOOP     B  $5=\"/2\",  LINE,\"1A\"                                         SEQ17982\n* COMMENT 6\n         ENDROUTINE\n         SCAN A[LINE$2,LINE]=\"A*A\",STRING(7,N),STRING(0,I),B$N          SEQ10864\n         A=STRING(  M)\n         BACKSCAN C$M[(LINE),\"B\"]/L3\n         SCAN C[C]=STRING(I)/L2,L3\n         IF(LENGTH(A)>=+6)/,L3\n        +SCAN B$2[]=\"AA\",STRING(\n         I),STRING(0,M),C\n         END\n" "A1-,,+B 1 B,2,--BB01BA0AAB0+1+A0 10,ABB,\n2\nAAA+1 AA0A-A\nBA2A0,AB0,A1" "step 1: n=0 notes=0 split=- trials=0 in=41 out=0 state=running next=5 held=[] numbers={N:0,M:0,I:0} strings={A:41312d2c2c2b42203120422c322c2d2d42423031424130414142302b312b41302031302c4142422c,B:,S1:,LINE:,C:}\nstep 2: n=0 notes=0 split=- trials=0 in=41 out=0 state=running next=6 held=[] numbers={N:0,M:0,I:0} strings={A:41312d2c2c2b42203120422c322c2d2d42423031424130414142302b312b41302031302c4142422c,B:,S1:30,LINE:,C:}\nstep 3: n=0 notes=0 split=0; trials=0 in=41 out=0 state=running next=7 held=[] numbers={N:0,M:0,I:0} strings={A:41312d2c2c2b42203120422c322c2d2d42423031424130414142302b312b41302031302c4142422c,B:,S1:30,LINE:,C:}\nstep 4: n=0 notes=0 split=- trials=0 in=41 out=0 state=running next=8 held=[] numbers={N:0,M:0,I:0} strings={A:413141313241312d2c2c2b42203120422c322c2d2d42423031424130414142302b312b41302031302c4142422c,B:,S1:30,LINE:,C:}\nstep 5: n=0 notes=0 split=- trials=0 in=43 out=0 state=running next=9 held=[] numbers={N:0,M:0,I:0} strings={A:413141313241312d2c2c2b42203120422c322c2d2d42423031424130414142302b312b41302031302c4142422c,B:,S1:30,LINE:32,C:}\nstep 6: n=0 notes=0 split=- trials=2 in=43 out=0 state=running next=10 held=[] numbers={N:0,M:0,I:0} strings={A:,B:,S1:30,LINE:32,C:}\nstep 7: n=0 notes=0 split=- trials=0 in=43 out=0 state=running next=17 held=[] numbers={N:0,M:0,I:0} strings={A:,B:,S1:30,LINE:32,C:}\nstep 8: n=0 notes=0 split=- trials=1 in=43 out=0 state=running next=18 held=[] numbers={N:0,M:0,I:0} strings={A:,B:,S1:30,LINE:32,C:}\nstep 9: n=0 notes=0 split=- trials=0 in=43 out=0 state=running next=19 held=[] numbers={N:0,M:0,I:0} strings={A:30,B:,S1:30,LINE:32,C:}\nstep 10: n=0 notes=0 split=- trials=1 in=43 out=0 state=running next=20 held=[] numbers={N:0,M:0,I:0} strings={A:30,B:,S1:30,LINE:,C:}\nstep 11: n=0 notes=0 split=0;0 trials=1 in=43 out=0 state=running next=5 held=[] numbers={N:0,M:0,I:0} strings={A:30,B:,S1:30,LINE:,C:30}\nstep 12: n=0 notes=0 split=- trials=0 in=43 out=0 state=running next=6 held=[] numbers={N:0,M:0,I:0} strings={A:30,B:,S1:30,LINE:,C:30}\nstep 13: n=0 notes=0 split=0; trials=0 in=43 out=0 state=running next=7 held=[] numbers={N:0,M:0,I:0} strings={A:30,B:,S1:30,LINE:,C:30}\nstep 14: n=0 notes=0 split=- trials=0 in=43 out=0 state=running next=8 held=[] numbers={N:0,M:0,I:0} strings={A:413141313230,B:,S1:30,LINE:,C:30}\nstep 15: n=0 notes=1 split=- trials=0 in=56 out=0 state=running next=9 held=[] numbers={N:0,M:0,I:0} strings={A:413141313230,B:,S1:30,LINE:4141,C:30}\nstep 16: n=0 notes=0 split=- trials=3 in=56 out=0 state=running next=10 held=[] numbers={N:0,M:0,I:0} strings={A:,B:,S1:30,LINE:4141,C:30}\nstep 17: n=0 notes=0 split=- trials=0 in=56 out=0 state=running next=17 held=[] numbers={N:0,M:0,I:0} strings={A:,B:,S1:30,LINE:4141,C:30}\nstep 18: n=0 notes=0 split=- trials=1 in=56 out=0 state=running next=18 held=[] numbers={N:0,M:0,I:0} strings={A:,B:,S1:30,LINE:4141,C:30}\nstep 19: n=0 notes=0 split=- trials=0 in=56 out=0 state=running next=19 held=[] numbers={N:0,M:0,I:0} strings={A:30,B:,S1:30,LINE:4141,C:30}\nstep 20: n=0 notes=0 split=- trials=1 in=56 out=0 state=running next=20 held=[] numbers={N:0,M:0,I:0} strings={A:30,B:,S1:30,LINE:,C:30}\nstep 21: n=0 notes=0 split=0;1 trials=1 in=56 out=0 state=running next=5 held=[] numbers={N:0,M:0,I:0} strings={A:30,B:,S1:30,LINE:,C:30}\nstep 22: n=0 notes=0 split=- trials=0 in=56 out=0 state=running next=6 held=[] numbers={N:0,M:0,I:0} strings={A:30,B:,S1:30,LINE:,C:30}\nstep 23: n=0 notes=0 split=0; trials=0 in=56 out=0 state=running next=7 held=[] numbers={N:0,M:0,I:0} strings={A:30,B:,S1:30,LINE:,C:30}\nstep 24: n=0 notes=0 split=- trials=0 in=56 out=0 state=running next=8 held=[] numbers={N:0,M:0,I:0} strings={A:413141313230,B:,S1:30,LINE:,C:30}\nstep 25: n=0 notes=1 split=- trials=0 in=68 out=0 state=running next=9 held=[] numbers={N:0,M:0,I:0} strings={A:413141313230,B:,S1:30,LINE:4241,C:30}\nstep 26: n=0 notes=0 split=- trials=3 in=68 out=0 state=running next=10 held=[] numbers={N:0,M:0,I:0} strings={A:,B:,S1:30,LINE:4241,C:30}\nstep 27: n=0 notes=0 split=- trials=0 in=68 out=0 state=running next=17 held=[] numbers={N:0,M:0,I:0} strings={A:,B:,S1:30,LINE:4241,C:30}\nstep 28: n=0 notes=0 split=- trials=1 in=68 out=0 state=running next=18 held=[] numbers={N:0,M:0,I:0} strings={A:,B:,S1:30,LINE:4241,C:30}\nstep 29: n=0 notes=0 split=- trials=0 in=68 out=0 state=running next=19 held=[] numbers={N:0,M:0,I:0} strings={A:30,B:,S1:30,LINE:4241,C:30}\nstep 30: n=0 notes=0 split=- trials=1 in=68 out=0 state=running next=20 held=[] numbers={N:0,M:0,I:0} strings={A:30,B:,S1:30,LINE:,C:30}\nstep 31: n=0 notes=0 split=0;1 trials=1 in=68 out=0 state=running next=5 held=[] numbers={N:0,M:0,I:0} strings={A:30,B:,S1:30,LINE:,C:30}\nstep 32: n=0 notes=0 split=- trials=0 in=68 out=0 state=running next=6 held=[] numbers={N:0,M:0,I:0} strings={A:30,B:,S1:30,LINE:,C:30}\nstep 33: n=0 notes=0 split=0; trials=0 in=68 out=0 state=running next=7 held=[] numbers={N:0,M:0,I:0} strings={A:30,B:,S1:30,LINE:,C:30}\nstep 34: n=0 notes=0 split=- trials=0 in=68 out=0 state=running next=8 held=[] numbers={N:0,M:0,I:0} strings={A:413141313230,B:,S1:30,LINE:,C:30}\nstep 35: n=0 notes=0 split=- trials=0 in=68 out=0 state=running next=7 held=[] numbers={N:0,M:0,I:0} strings={A:413141313230,B:,S1:30,LINE:,C:30}\nstep 36: n=0 notes=0 split=- trials=0 in=68 out=0 state=running next=8 held=[] numbers={N:0,M:0,I:0} strings={A:4131413132413141313230,B:,S1:30,LINE:,C:30}\nstep 37: n=0 notes=0 split=- trials=0 in=68 out=0 state=running next=7 held=[] numbers={N:0,M:0,I:0} strings={A:4131413132413141313230,B:,S1:30,LINE:,C:30}\nstep 38: n=0 notes=0 split=- trials=0 in=68 out=0 state=running next=8 held=[] numbers={N:0,M:0,I:0} strings={A:41314131324131413132413141313230,B:,S1:30,LINE:,C:30}\nstep 39: n=0 notes=0 split=- trials=0 in=68 out=0 state=running next=7 held=[] numbers={N:0,M:0,I:0} strings={A:41314131324131413132413141313230,B:,S1:30,LINE:,C:30}\nstep 40: n=0 notes=0 split=- trials=0 in=68 out=0 state=running next=8 held=[] numbers={N:0,M:0,I:0} strings={A:413141313241314131324131413132413141313230,B:,S1:30,LINE:,C:30}\nstep 41: n=0 notes=0 split=- trials=0 in=68 out=0 state=running next=7 held=[] numbers={N:0,M:0,I:0} strings={A:413141313241314131324131413132413141313230,B:,S1:30,LINE:,C:30}\nstep 42: n=0 notes=0 split=- trials=0 in=68 out=0 state=running next=8 held=[] numbers={N:0,M:0,I:0} strings={A:4131413132413141313241314131324131413132413141313230,B:,S1:30,LINE:,C:30}\nstep 43: n=0 notes=0 split=- trials=0 in=68 out=0 state=running next=7 held=[] numbers={N:0,M:0,I:0} strings={A:4131413132413141313241314131324131413132413141313230,B:,S1:30,LINE:,C:30}\nstep 44: n=0 notes=0 split=- trials=0 in=68 out=0 state=running next=8 held=[] numbers={N:0,M:0,I:0} strings={A:41314131324131413132413141313241314131324131413132413141313230,B:,S1:30,LINE:,C:30}\nstep 45: n=0 notes=0 split=- trials=0 in=68 out=0 state=running next=7 held=[] numbers={N:0,M:0,I:0} strings={A:41314131324131413132413141313241314131324131413132413141313230,B:,S1:30,LINE:,C:30}\nstep 46: n=0 notes=0 split=- trials=0 in=68 out=0 state=running next=8 held=[] numbers={N:0,M:0,I:0} strings={A:413141313241314131324131413132413141313241314131324131413132413141313230,B:,S1:30,LINE:,C:30}\nstep 47: n=0 notes=0 split=- trials=0 in=68 out=0 state=running next=7 held=[] numbers={N:0,M:0,I:0} strings={A:413141313241314131324131413132413141313241314131324131413132413141313230,B:,S1:30,LINE:,C:30}\nstep 48: n=0 notes=0 split=- trials=0 in=68 out=0 state=running next=8 held=[] numbers={N:0,M:0,I:0} strings={A:4131413132413141313241314131324131413132413141313241314131324131413132413141313230,B:,S1:30,LINE:,C:30}\nstep 49: n=0 notes=0 split=- trials=0 in=68 out=0 state=running next=7 held=[] numbers={N:0,M:0,I:0} strings={A:4131413132413141313241314131324131413132413141313241314131324131413132413141313230,B:,S1:30,LINE:,C:30}\nstep 50: n=0 notes=0 split=- trials=0 in=68 out=0 state=running next=8 held=[] numbers={N:0,M:0,I:0} strings={A:41314131324131413132413141313241314131324131413132413141313241314131324131413132413141313230,B:,S1:30,LINE:,C:30}\nstep 51: n=0 notes=0 split=- trials=0 in=68 out=0 state=running next=7 held=[] numbers={N:0,M:0,I:0} strings={A:41314131324131413132413141313241314131324131413132413141313241314131324131413132413141313230,B:,S1:30,LINE:,C:30}\nstep 52: n=0 notes=0 split=- trials=0 in=68 out=0 state=running next=8 held=[] numbers={N:0,M:0,I:0} strings={A:413141313241314131324131413132413141313241314131324131413132413141313241314131324131413132413141313230,B:,S1:30,LINE:,C:30}\nstep 53: n=0 notes=0 split=- trials=0 in=68 out=0 state=running next=7 held=[] numbers={N:0,M:0,I:0} strings={A:413141313241314131324131413132413141313241314131324131413132413141313241314131324131413132413141313230,B:,S1:30,LINE:,C:30}\nstep 54: n=0 notes=0 split=- trials=0 in=68 out=0 state=running next=8 held=[] numbers={N:0,M:0,I:0} strings={A:4131413132413141313241314131324131413132413141313241314131324131413132413141313241314131324131413132413141313230,B:,S1:30,LINE:,C:30}\nstep 55: n=0 notes=0 split=- trials=0 in=68 out=0 state=running next=7 held=[] numbers={N:0,M:0,I:0} strings={A:4131413132413141313241314131324131413132413141313241314131324131413132413141313241314131324131413132413141313230,B:,S1:30,LINE:,C:30}\nstep 56: n=0 notes=0 split=- trials=0 in=68 out=0 state=running next=8 held=[] numbers={N:0,M:0,I:0} strings={A:41314131324131413132413141313241314131324131413132413141313241314131324131413132413141313241314131324131413132413141313230,B:,S1:30,LINE:,C:30}\nstep 57: n=0 notes=0 split=- trials=0 in=68 out=0 state=running next=7 held=[] numbers={N:0,M:0,I:0} strings={A:41314131324131413132413141313241314131324131413132413141313241314131324131413132413141313241314131324131413132413141313230,B:,S1:30,LINE:,C:30}\nstep 58: n=0 notes=0 split=- trials=0 in=68 out=0 state=running next=8 held=[] numbers={N:0,M:0,I:0} strings={A:413141313241314131324131413132413141313241314131324131413132413141313241314131324131413132413141313241314131324131413132413141313230,B:,S1:30,LINE:,C:30}\nstep 59: n=0 notes=0 split=- trials=0 in=68 out=0 state=running next=7 held=[] numbers={N:0,M:0,I:0} strings={A:413141313241314131324131413132413141313241314131324131413132413141313241314131324131413132413141313241314131324131413132413141313230,B:,S1:30,LINE:,C:30}\nstep 60: n=0 notes=0 split=- trials=0 in=68 out=0 state=running next=8 held=[] numbers={N:0,M:0,I:0} strings={A:4131413132413141313241314131324131413132413141313241314131324131413132413141313241314131324131413132413141313241314131324131413132413141313230,B:,S1:30,LINE:,C:30}\n" ≡ true
 unfolding agrees
 v011 = refl
 

@@ -10,7 +10,7 @@ v070 : agrees "         PROGRAM P\n         NUMBER N,M,I\n* COMMENT 0\n         
 unfolding agrees
 v070 = refl
 
-v071 : agrees "         PROGRAM TEST1                                                  SEQ54329\n         NUMBER N  \n                                                                        SEQ\n L1      C=TEXTLONG$6,\"0-A-1-2 +=-1\",\"A\",\"B,\"\nX9       A=STRING(N,  N),LINE\n L2      TEXTLONG=B\nLOOP     B=\nDONE     READ C$4/L3,X9\n L3      END" "A+AB,,1    A\n,+,A2B+B 2+11+A,2A1,-,AA+2-1 2+211A-2+22\nAAAB0-A2,1+ 0-A0AB,0A-BA2,B0,,+B1 +1+,+A\n-0,\n1\nA 00- 2B0 -,0 , B+-BB -0+0A2ABA,A,00,A1-\nB,AA--0A-  B +--,B,-1  +0 ,0A+++A0+220A \n,+12+,\n" "step 1: n=0 notes=0 split=- trials=0 in=0 out=0 state=running next=5 held=[] numbers={N:0} strings={C:302d412d312d32202b3d2d3141422c,TEXTLONG:,A:,LINE:,B:}\nstep 2: n=0 notes=0 split=- trials=0 in=0 out=0 state=running next=6 held=[] numbers={N:0} strings={C:302d412d312d32202b3d2d3141422c,TEXTLONG:,A:30,LINE:,B:}\nstep 3: n=0 notes=0 split=- trials=0 in=0 out=0 state=running next=7 held=[] numbers={N:0} strings={C:302d412d312d32202b3d2d3141422c,TEXTLONG:,A:30,LINE:,B:}\nstep 4: n=0 notes=0 split=- trials=0 in=0 out=0 state=running next=8 held=[] numbers={N:0} strings={C:302d412d312d32202b3d2d3141422c,TEXTLONG:,A:30,LINE:,B:}\nstep 5: n=0 notes=0 split=- trials=0 in=13 out=0 state=running next=9 held=[] numbers={N:0} strings={C:412b4142,TEXTLONG:,A:30,LINE:,B:}\nstep 6: n=0 notes=0 split=- trials=0 in=13 out=0 state=finished next=9 held=[] numbers={N:0} strings={C:412b4142,TEXTLONG:,A:30,LINE:,B:}\n" ≡ true
+v071 : agrees "         PROGRAM TEST1                                                  SEQ54329\n         NUMBER N  \n                                                                        SEQ\n L1      C=TEXTLONG$6,\"0-A-1-2 +=-1\",\"A\",\"B,\"\nX9       A=STRING(N,  N),LINE\n L2      TEXTLONG=B\nLOOP     B=\nDONE     READ C$4/L3,X9\n L3      END" "A+AB,,1    A\n,+,A2B+B 2+11+A,2A1,-,AA+2-1 2+211A-2+22\nAAAB0-A2,1+ 0-A0AB,0A-BA2,B0,,+B1 +1+,+A\n-0,\n1\nA 00- 2B0 -,0 , B+-BB -0+0A2ABA,A,00,A1-\nB,AA--0A-  B +--,B,-1  +0 ,0A+++A0+220A \n,+12+,\n" "step 1: n=0 notes=0 split=- trials=0 in=0 out=0 state=running next=5 held=[] numbers={N:0} strings={C:302d412d312d32202b3d2d3141422c,TEXTLONG:,A:,LINE:,B:}\nstep 2: n=0 notes=0 split=- trials=0 in=0 out=0 state=running next=6 held=[] numbers={N:0} strings={C:302d412d312d32202b3d2d3141422c,TEXTLONG:,A:30,LINE:,B:}\nstep 3: n=0 notes=0 split=- trials=0 in=0 out=0 state=running next=7 held=[] numbers={N:0} strings={C:302d412d312d32202b3d2d3141422c,TEXTLONG:,A:30,LINE:,B:}\nstep 4: n=0 notes=0 split=- trials=0 in=0 out=0 state=running next=8 held=[] numbers={N:0} strings={C:302d412d312d32202b3d2d3141422c,TEXTLONG:,A:30,LINE:,B:}\nstep 5: n=0 notes=1 split=- trials=0 in=13 out=0 state=running next=9 held=[] numbers={N:0} strings={C:412b4142,TEXTLONG:,A:30,LINE:,B:}\nstep 6: n=0 notes=0 split=- trials=0 in=13 out=0 state=finished next=9 held=[] numbers={N:0} strings={C:412b4142,TEXTLONG:,A:30,LINE:,B:}\n" ≡ true
 unfolding agrees
 v071 = refl
 

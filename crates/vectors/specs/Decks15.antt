@@ -54,7 +54,7 @@ v101 : agrees "         PR O G  RAM P\n         N  UM BER N  ,M  ,I\n* COMMENT 3
 unfolding agrees
 v101 = refl
 
-v102 : agrees "         P ROGRAM   P\n         NUM  BER  N,M,I, K9,C OUNT\n* COMMENT 7\nDONE     READ(60) F                                                     SEQ49651\n         IF(-7>M)/L3\n         I  =I\n         B$M =\"2 ,\",\"A 2,AA ABAAA\",\",B 1 A2A ,,A\",TEXTLONG\n         READ F$5/LOOP\n         LINE$N=TEXTLONG,STRING(-0002,I),\"2- -/2,2/A1/\"\n         BACK  SC  AN   F[(T  EXTLONG$0)] /,L OOP\n         ROUTINE R2\n L2      IF(4  > = LEN GTH(S1))/L1\nL1       READ F\n         ENDROUT  INE                                                   SEQ30200\n         WRITE(61) TEXTLONG$N\n         ROUTI NE R1\n* COMMENT 7\nX9       ENDROUTINE\n                                                                        SEQ\nL3       BACK SCAN S1[(F) ,B,B]=STRIN G(K9)/LO OP\n* COMMENT 3\n         IF(+8<=0001)/DONE\nLOOP     READ F$K9\n         END" "-\n12B11+\n" "step 1: n=0 notes=0 split=- trials=0 in=2 out=0 state=running next=5 held=[] numbers={N:0,M:0,I:0,K9:0,COUNT:0} strings={F:2d,B:,TEXTLONG:,LINE:,S1:}\nstep 2: n=0 notes=0 split=- trials=0 in=2 out=0 state=running next=6 held=[] numbers={N:0,M:0,I:0,K9:0,COUNT:0} strings={F:2d,B:,TEXTLONG:,LINE:,S1:}\nstep 3: n=0 notes=0 split=- trials=0 in=2 out=0 state=running next=7 held=[] numbers={N:0,M:0,I:0,K9:0,COUNT:0} strings={F:2d,B:,TEXTLONG:,LINE:,S1:}\nstep 4: n=0 notes=0 split=- trials=0 in=2 out=0 state=running next=8 held=[] numbers={N:0,M:0,I:0,K9:0,COUNT:0} strings={F:2d,B:32202c4120322c41412041424141412c42203120413241202c2c41,TEXTLONG:,LINE:,S1:}\nstep 5: n=0 notes=0 split=- trials=0 in=9 out=0 state=running next=23 held=[] numbers={N:0,M:0,I:0,K9:0,COUNT:0} strings={F:3132423131,B:32202c4120322c41412041424141412c42203120413241202c2c41,TEXTLONG:,LINE:,S1:}\nstep 6: n=0 notes=0 split=- trials=0 in=9 out=0 state=running next=24 held=[] numbers={N:0,M:0,I:0,K9:0,COUNT:0} strings={F:3132423131,B:32202c4120322c41412041424141412c42203120413241202c2c41,TEXTLONG:,LINE:,S1:}\nstep 7: n=0 notes=0 split=- trials=0 in=9 out=0 state=finished next=24 held=[] numbers={N:0,M:0,I:0,K9:0,COUNT:0} strings={F:3132423131,B:32202c4120322c41412041424141412c42203120413241202c2c41,TEXTLONG:,LINE:,S1:}\n" ≡ true
+v102 : agrees "         P ROGRAM   P\n         NUM  BER  N,M,I, K9,C OUNT\n* COMMENT 7\nDONE     READ(60) F                                                     SEQ49651\n         IF(-7>M)/L3\n         I  =I\n         B$M =\"2 ,\",\"A 2,AA ABAAA\",\",B 1 A2A ,,A\",TEXTLONG\n         READ F$5/LOOP\n         LINE$N=TEXTLONG,STRING(-0002,I),\"2- -/2,2/A1/\"\n         BACK  SC  AN   F[(T  EXTLONG$0)] /,L OOP\n         ROUTINE R2\n L2      IF(4  > = LEN GTH(S1))/L1\nL1       READ F\n         ENDROUT  INE                                                   SEQ30200\n         WRITE(61) TEXTLONG$N\n         ROUTI NE R1\n* COMMENT 7\nX9       ENDROUTINE\n                                                                        SEQ\nL3       BACK SCAN S1[(F) ,B,B]=STRIN G(K9)/LO OP\n* COMMENT 3\n         IF(+8<=0001)/DONE\nLOOP     READ F$K9\n         END" "-\n12B11+\n" "step 1: n=0 notes=0 split=- trials=0 in=2 out=0 state=running next=5 held=[] numbers={N:0,M:0,I:0,K9:0,COUNT:0} strings={F:2d,B:,TEXTLONG:,LINE:,S1:}\nstep 2: n=0 notes=0 split=- trials=0 in=2 out=0 state=running next=6 held=[] numbers={N:0,M:0,I:0,K9:0,COUNT:0} strings={F:2d,B:,TEXTLONG:,LINE:,S1:}\nstep 3: n=0 notes=0 split=- trials=0 in=2 out=0 state=running next=7 held=[] numbers={N:0,M:0,I:0,K9:0,COUNT:0} strings={F:2d,B:,TEXTLONG:,LINE:,S1:}\nstep 4: n=0 notes=0 split=- trials=0 in=2 out=0 state=running next=8 held=[] numbers={N:0,M:0,I:0,K9:0,COUNT:0} strings={F:2d,B:32202c4120322c41412041424141412c42203120413241202c2c41,TEXTLONG:,LINE:,S1:}\nstep 5: n=0 notes=1 split=- trials=0 in=9 out=0 state=running next=23 held=[] numbers={N:0,M:0,I:0,K9:0,COUNT:0} strings={F:3132423131,B:32202c4120322c41412041424141412c42203120413241202c2c41,TEXTLONG:,LINE:,S1:}\nstep 6: n=0 notes=0 split=- trials=0 in=9 out=0 state=running next=24 held=[] numbers={N:0,M:0,I:0,K9:0,COUNT:0} strings={F:3132423131,B:32202c4120322c41412041424141412c42203120413241202c2c41,TEXTLONG:,LINE:,S1:}\nstep 7: n=0 notes=0 split=- trials=0 in=9 out=0 state=finished next=24 held=[] numbers={N:0,M:0,I:0,K9:0,COUNT:0} strings={F:3132423131,B:32202c4120322c41412041424141412c42203120413241202c2c41,TEXTLONG:,LINE:,S1:}\n" ≡ true
 unfolding agrees
 v102 = refl
 

@@ -78,6 +78,6 @@ v127 : agrees "         PROGRAM LOTS\n         NUMBER N,M\n         BACKSCAN A$M
 unfolding agrees
 v127 = refl
 
-v128 : agrees "         PROGRAM LOTS\n         NUMBER N,M,I,K9\n* COMMENT 0\nL2       EXECUTE R1\n LOOP    READ(60) A$4/L3,L3\n L3     *WRITE A,STRING(\n        +N,I),\" \",STRING\n         (N,M)\n         ROUTINE R1\nL1       B =B\nX9       PRINT \"  \"\nDONE     WRITE \"12\",STRING(I),A$2\n         PRINT A$0\n         E  NDROU T  INE\n         END\n" "1,12A0,2A1+2+ ,B+   1A-0110--2+BA2B0AAA0\n0+- ,B\nB\n" "step 1: n=0 notes=0 split=- trials=0 in=0 out=0 state=running next=10 held=[5] numbers={N:0,M:0,I:0,K9:0} strings={A:,B:}\nstep 2: n=0 notes=0 split=- trials=0 in=0 out=0 state=running next=11 held=[5] numbers={N:0,M:0,I:0,K9:0} strings={A:,B:}\nstep 3: n=0 notes=0 split=- trials=0 in=0 out=3 state=running next=12 held=[5] numbers={N:0,M:0,I:0,K9:0} strings={A:,B:}\nstep 4: n=0 notes=0 split=- trials=0 in=0 out=7 state=running next=13 held=[5] numbers={N:0,M:0,I:0,K9:0} strings={A:,B:}\nstep 5: n=0 notes=0 split=- trials=0 in=0 out=7 state=running next=14 held=[5] numbers={N:0,M:0,I:0,K9:0} strings={A:,B:}\nstep 6: n=0 notes=0 split=- trials=0 in=0 out=7 state=running next=5 held=[] numbers={N:0,M:0,I:0,K9:0} strings={A:,B:}\nstep 7: n=0 notes=0 split=- trials=0 in=41 out=7 state=running next=6 held=[] numbers={N:0,M:0,I:0,K9:0} strings={A:312c3132,B:}\nstep 8: n=0 notes=0 split=- trials=0 in=41 out=15 state=running next=9 held=[] numbers={N:0,M:0,I:0,K9:0} strings={A:312c3132,B:}\nstep 9: n=0 notes=0 split=- trials=0 in=41 out=15 state=running next=15 held=[] numbers={N:0,M:0,I:0,K9:0} strings={A:312c3132,B:}\nstep 10: n=0 notes=0 split=- trials=0 in=41 out=15 state=finished next=15 held=[] numbers={N:0,M:0,I:0,K9:0} strings={A:312c3132,B:}\n" ≡ true
+v128 : agrees "         PROGRAM LOTS\n         NUMBER N,M,I,K9\n* COMMENT 0\nL2       EXECUTE R1\n LOOP    READ(60) A$4/L3,L3\n L3     *WRITE A,STRING(\n        +N,I),\" \",STRING\n         (N,M)\n         ROUTINE R1\nL1       B =B\nX9       PRINT \"  \"\nDONE     WRITE \"12\",STRING(I),A$2\n         PRINT A$0\n         E  NDROU T  INE\n         END\n" "1,12A0,2A1+2+ ,B+   1A-0110--2+BA2B0AAA0\n0+- ,B\nB\n" "step 1: n=0 notes=0 split=- trials=0 in=0 out=0 state=running next=10 held=[5] numbers={N:0,M:0,I:0,K9:0} strings={A:,B:}\nstep 2: n=0 notes=0 split=- trials=0 in=0 out=0 state=running next=11 held=[5] numbers={N:0,M:0,I:0,K9:0} strings={A:,B:}\nstep 3: n=0 notes=0 split=- trials=0 in=0 out=3 state=running next=12 held=[5] numbers={N:0,M:0,I:0,K9:0} strings={A:,B:}\nstep 4: n=0 notes=0 split=- trials=0 in=0 out=7 state=running next=13 held=[5] numbers={N:0,M:0,I:0,K9:0} strings={A:,B:}\nstep 5: n=0 notes=0 split=- trials=0 in=0 out=7 state=running next=14 held=[5] numbers={N:0,M:0,I:0,K9:0} strings={A:,B:}\nstep 6: n=0 notes=0 split=- trials=0 in=0 out=7 state=running next=5 held=[] numbers={N:0,M:0,I:0,K9:0} strings={A:,B:}\nstep 7: n=0 notes=1 split=- trials=0 in=41 out=7 state=running next=6 held=[] numbers={N:0,M:0,I:0,K9:0} strings={A:312c3132,B:}\nstep 8: n=0 notes=0 split=- trials=0 in=41 out=15 state=running next=9 held=[] numbers={N:0,M:0,I:0,K9:0} strings={A:312c3132,B:}\nstep 9: n=0 notes=0 split=- trials=0 in=41 out=15 state=running next=15 held=[] numbers={N:0,M:0,I:0,K9:0} strings={A:312c3132,B:}\nstep 10: n=0 notes=0 split=- trials=0 in=41 out=15 state=finished next=15 held=[] numbers={N:0,M:0,I:0,K9:0} strings={A:312c3132,B:}\n" ≡ true
 unfolding agrees
 v128 = refl

@@ -38,7 +38,7 @@ v137 : agrees "         PROGRAM TEST1\nSTART    NUM BER   N,M,I,K9,COUNT\nX9    
 unfolding agrees
 v137 = refl
 
-v138 : agrees "         PROGRA M  P\n         NUMBER N,M,I\n LOOP    READ(60) A$2/,LOOP\n         ROUTINE R1\n         SCAN B$M[S1,(A$M),  (A),(  S1$N),\"1 A,,\"]/L1\n L1      I=(47)+  (-M)                                                  SEQ11778\n         WRITE STRING(N)\nDONE     ENDROUTIN E\n L3      EXECUTE R1\nL2       SCAN A[(B)]                                                    SEQ11280\n        XIF(NUMBER(A)<=NUMBER(\n         S1$3))/,LOOP\n X9      SCAN S1[\"B\",\" \"]=S1,LINE$N\n* COMMENT 0\n         END\n" "2,0\nA2-,BA0, A2A\n" "step 1: n=0 notes=0 split=- trials=0 in=4 out=0 state=running next=4 held=[] numbers={N:0,M:0,I:0} strings={A:322c,B:,S1:,LINE:}\nstep 2: n=0 notes=0 split=- trials=0 in=4 out=0 state=running next=9 held=[] numbers={N:0,M:0,I:0} strings={A:322c,B:,S1:,LINE:}\nstep 3: n=0 notes=0 split=- trials=0 in=4 out=0 state=running next=5 held=[10] numbers={N:0,M:0,I:0} strings={A:322c,B:,S1:,LINE:}\nstep 4: n=0 notes=0 split=- trials=4 in=4 out=0 state=running next=6 held=[10] numbers={N:0,M:0,I:0} strings={A:,B:,S1:,LINE:}\nstep 5: n=0 notes=0 split=- trials=0 in=4 out=0 state=running next=7 held=[10] numbers={N:0,M:0,I:47} strings={A:,B:,S1:,LINE:}\nstep 6: n=0 notes=0 split=- trials=0 in=4 out=2 state=running next=8 held=[10] numbers={N:0,M:0,I:47} strings={A:,B:,S1:,LINE:}\nstep 7: n=0 notes=0 split=- trials=0 in=4 out=2 state=running next=10 held=[] numbers={N:0,M:0,I:47} strings={A:,B:,S1:,LINE:}\nstep 8: n=0 notes=0 split=0;0 trials=0 in=4 out=2 state=running next=11 held=[] numbers={N:0,M:0,I:47} strings={A:,B:,S1:,LINE:}\nstep 9: n=0 notes=2 split=- trials=0 in=4 out=2 state=running next=13 held=[] numbers={N:0,M:0,I:47} strings={A:,B:,S1:,LINE:}\nstep 10: n=0 notes=0 split=- trials=1 in=4 out=2 state=running next=15 held=[] numbers={N:0,M:0,I:47} strings={A:,B:,S1:,LINE:}\nstep 11: n=0 notes=0 split=- trials=0 in=4 out=2 state=finished next=15 held=[] numbers={N:0,M:0,I:47} strings={A:,B:,S1:,LINE:}\n" ≡ true
+v138 : agrees "         PROGRA M  P\n         NUMBER N,M,I\n LOOP    READ(60) A$2/,LOOP\n         ROUTINE R1\n         SCAN B$M[S1,(A$M),  (A),(  S1$N),\"1 A,,\"]/L1\n L1      I=(47)+  (-M)                                                  SEQ11778\n         WRITE STRING(N)\nDONE     ENDROUTIN E\n L3      EXECUTE R1\nL2       SCAN A[(B)]                                                    SEQ11280\n        XIF(NUMBER(A)<=NUMBER(\n         S1$3))/,LOOP\n X9      SCAN S1[\"B\",\" \"]=S1,LINE$N\n* COMMENT 0\n         END\n" "2,0\nA2-,BA0, A2A\n" "step 1: n=0 notes=1 split=- trials=0 in=4 out=0 state=running next=4 held=[] numbers={N:0,M:0,I:0} strings={A:322c,B:,S1:,LINE:}\nstep 2: n=0 notes=0 split=- trials=0 in=4 out=0 state=running next=9 held=[] numbers={N:0,M:0,I:0} strings={A:322c,B:,S1:,LINE:}\nstep 3: n=0 notes=0 split=- trials=0 in=4 out=0 state=running next=5 held=[10] numbers={N:0,M:0,I:0} strings={A:322c,B:,S1:,LINE:}\nstep 4: n=0 notes=0 split=- trials=4 in=4 out=0 state=running next=6 held=[10] numbers={N:0,M:0,I:0} strings={A:,B:,S1:,LINE:}\nstep 5: n=0 notes=0 split=- trials=0 in=4 out=0 state=running next=7 held=[10] numbers={N:0,M:0,I:47} strings={A:,B:,S1:,LINE:}\nstep 6: n=0 notes=0 split=- trials=0 in=4 out=2 state=running next=8 held=[10] numbers={N:0,M:0,I:47} strings={A:,B:,S1:,LINE:}\nstep 7: n=0 notes=0 split=- trials=0 in=4 out=2 state=running next=10 held=[] numbers={N:0,M:0,I:47} strings={A:,B:,S1:,LINE:}\nstep 8: n=0 notes=0 split=0;0 trials=0 in=4 out=2 state=running next=11 held=[] numbers={N:0,M:0,I:47} strings={A:,B:,S1:,LINE:}\nstep 9: n=0 notes=2 split=- trials=0 in=4 out=2 state=running next=13 held=[] numbers={N:0,M:0,I:47} strings={A:,B:,S1:,LINE:}\nstep 10: n=0 notes=0 split=- trials=1 in=4 out=2 state=running next=15 held=[] numbers={N:0,M:0,I:47} strings={A:,B:,S1:,LINE:}\nstep 11: n=0 notes=0 split=- trials=0 in=4 out=2 state=finished next=15 held=[] numbers={N:0,M:0,I:47} strings={A:,B:,S1:,LINE:}\n" ≡ true
 unfolding agrees
 v138 = refl
 
@@ -66,7 +66,7 @@ v144 : agrees "         PROGRAM P\n         NUMBER N\nL1       B =\"A\",  B$3,C$
 unfolding agrees
 v144 = refl
 
-v145 : agrees "         PROGRAM TEST1\n         NUMBER N,M\n         M=(0)\n         F=A$N  ,F,\"A B\"\n X9      PRINT \"A\"\n         R  EAD(60 ) TEXTLONG\nL1       C=STRING(09,M),A,LINE\nL3       PRINT \",\",\"$\",\"2\"\n         READ A$2\nL2       B=TEXTLONG$1,STRING(N),F$6\nLOOP     PRINT LI  NE,B$M\n        CA=TEXTLO\n         NG\n         F$N=\"A ABBA2A2ABA\",S1$M,A,STRING(0,M)\n* COMMENT 3\n         M=NUMBER(B)/LENGTH(TEXTLONG)*NUMBER(G)\nDONE     PRINT(61) F$M\n         SCAN G$1[\"A\"]/L2\n         END\n" "-+AA,A1+A110B0 +,0BA1AA2 +,A ,0A1 +A- 0,\n+10A2A00B ,0,02A2A+-1,0+- ,0+0A22BAB2 - \n B,, 1\n2+2,BA\n" "step 1: n=0 notes=0 split=- trials=0 in=0 out=0 state=running next=4 held=[] numbers={N:0,M:0} strings={F:,A:,TEXTLONG:,C:,LINE:,B:,S1:,G:}\nstep 2: n=0 notes=0 split=- trials=0 in=0 out=0 state=running next=5 held=[] numbers={N:0,M:0} strings={F:412042,A:,TEXTLONG:,C:,LINE:,B:,S1:,G:}\nstep 3: n=0 notes=0 split=- trials=0 in=0 out=2 state=running next=6 held=[] numbers={N:0,M:0} strings={F:412042,A:,TEXTLONG:,C:,LINE:,B:,S1:,G:}\nstep 4: n=0 notes=0 split=- trials=0 in=41 out=2 state=running next=7 held=[] numbers={N:0,M:0} strings={F:412042,A:,TEXTLONG:2d2b41412c41312b413131304230202b2c30424131414132202b2c41202c304131202b412d20302c,C:,LINE:,B:,S1:,G:}\nstep 5: n=0 notes=0 split=- trials=0 in=41 out=2 state=running next=8 held=[] numbers={N:0,M:0} strings={F:412042,A:,TEXTLONG:2d2b41412c41312b413131304230202b2c30424131414132202b2c41202c304131202b412d20302c,C:303030303030303030,LINE:,B:,S1:,G:}\nstep 6: n=0 notes=0 split=- trials=0 in=41 out=6 state=running next=9 held=[] numbers={N:0,M:0} strings={F:412042,A:,TEXTLONG:2d2b41412c41312b413131304230202b2c30424131414132202b2c41202c304131202b412d20302c,C:303030303030303030,LINE:,B:,S1:,G:}\nstep 7: n=0 notes=0 split=- trials=0 in=82 out=6 state=running next=10 held=[] numbers={N:0,M:0} strings={F:412042,A:2b31,TEXTLONG:2d2b41412c41312b413131304230202b2c30424131414132202b2c41202c304131202b412d20302c,C:303030303030303030,LINE:,B:,S1:,G:}\nstep 8: n=0 notes=0 split=- trials=0 in=82 out=6 state=running next=11 held=[] numbers={N:0,M:0} strings={F:412042,A:2b31,TEXTLONG:2d2b41412c41312b413131304230202b2c30424131414132202b2c41202c304131202b412d20302c,C:303030303030303030,LINE:,B:2d30412042,S1:,G:}\nstep 9: n=0 notes=0 split=- trials=0 in=82 out=6 state=running next=12 held=[] numbers={N:0,M:0} strings={F:412042,A:2b31,TEXTLONG:2d2b41412c41312b413131304230202b2c30424131414132202b2c41202c304131202b412d20302c,C:303030303030303030,LINE:,B:2d30412042,S1:,G:}\nstep 10: n=0 notes=0 split=- trials=0 in=82 out=6 state=running next=14 held=[] numbers={N:0,M:0} strings={F:412042,A:2d2b41412c41312b413131304230202b2c30424131414132202b2c41202c304131202b412d20302c,TEXTLONG:2d2b41412c41312b413131304230202b2c30424131414132202b2c41202c304131202b412d20302c,C:303030303030303030,LINE:,B:2d30412042,S1:,G:}\nstep 11: n=0 notes=0 split=- trials=0 in=82 out=6 state=running next=16 held=[] numbers={N:0,M:0} strings={F:4120414242413241324142412d2b41412c41312b413131304230202b2c30424131414132202b2c41202c304131202b412d20302c30412042,A:2d2b41412c41312b413131304230202b2c30424131414132202b2c41202c304131202b412d20302c,TEXTLONG:2d2b41412c41312b413131304230202b2c30424131414132202b2c41202c304131202b412d20302c,C:303030303030303030,LINE:,B:2d30412042,S1:,G:}\nstep 12: n=0 notes=2 split=- trials=0 in=82 out=6 state=running next=17 held=[] numbers={N:0,M:0} strings={F:4120414242413241324142412d2b41412c41312b413131304230202b2c30424131414132202b2c41202c304131202b412d20302c30412042,A:2d2b41412c41312b413131304230202b2c30424131414132202b2c41202c304131202b412d20302c,TEXTLONG:2d2b41412c41312b413131304230202b2c30424131414132202b2c41202c304131202b412d20302c,C:303030303030303030,LINE:,B:2d30412042,S1:,G:}\nstep 13: n=0 notes=0 split=- trials=0 in=82 out=6 state=running next=18 held=[] numbers={N:0,M:0} strings={F:4120414242413241324142412d2b41412c41312b413131304230202b2c30424131414132202b2c41202c304131202b412d20302c30412042,A:2d2b41412c41312b413131304230202b2c30424131414132202b2c41202c304131202b412d20302c,TEXTLONG:2d2b41412c41312b413131304230202b2c30424131414132202b2c41202c304131202b412d20302c,C:303030303030303030,LINE:,B:2d30412042,S1:,G:}\nstep 14: n=0 notes=0 split=- trials=1 in=82 out=6 state=running next=19 held=[] numbers={N:0,M:0} strings={F:4120414242413241324142412d2b41412c41312b413131304230202b2c30424131414132202b2c41202c304131202b412d20302c30412042,A:2d2b41412c41312b413131304230202b2c30424131414132202b2c41202c304131202b412d20302c,TEXTLONG:2d2b41412c41312b413131304230202b2c30424131414132202b2c41202c304131202b412d20302c,C:303030303030303030,LINE:,B:2d30412042,S1:,G:}\nstep 15: n=0 notes=0 split=- trials=0 in=82 out=6 state=finished next=19 held=[] numbers={N:0,M:0} strings={F:4120414242413241324142412d2b41412c41312b413131304230202b2c30424131414132202b2c41202c304131202b412d20302c30412042,A:2d2b41412c41312b413131304230202b2c30424131414132202b2c41202c304131202b412d20302c,TEXTLONG:2d2b41412c41312b413131304230202b2c30424131414132202b2c41202c304131202b412d20302c,C:303030303030303030,LINE:,B:2d30412042,S1:,G:}\n" ≡ true
+v145 : agrees "         PROGRAM TEST1\n         NUMBER N,M\n         M=(0)\n         F=A$N  ,F,\"A B\"\n X9      PRINT \"A\"\n         R  EAD(60 ) TEXTLONG\nL1       C=STRING(09,M),A,LINE\nL3       PRINT \",\",\"$\",\"2\"\n         READ A$2\nL2       B=TEXTLONG$1,STRING(N),F$6\nLOOP     PRINT LI  NE,B$M\n        CA=TEXTLO\n         NG\n         F$N=\"A ABBA2A2ABA\",S1$M,A,STRING(0,M)\n* COMMENT 3\n         M=NUMBER(B)/LENGTH(TEXTLONG)*NUMBER(G)\nDONE     PRINT(61) F$M\n         SCAN G$1[\"A\"]/L2\n         END\n" "-+AA,A1+A110B0 +,0BA1AA2 +,A ,0A1 +A- 0,\n+10A2A00B ,0,02A2A+-1,0+- ,0+0A22BAB2 - \n B,, 1\n2+2,BA\n" "step 1: n=0 notes=0 split=- trials=0 in=0 out=0 state=running next=4 held=[] numbers={N:0,M:0} strings={F:,A:,TEXTLONG:,C:,LINE:,B:,S1:,G:}\nstep 2: n=0 notes=0 split=- trials=0 in=0 out=0 state=running next=5 held=[] numbers={N:0,M:0} strings={F:412042,A:,TEXTLONG:,C:,LINE:,B:,S1:,G:}\nstep 3: n=0 notes=0 split=- trials=0 in=0 out=2 state=running next=6 held=[] numbers={N:0,M:0} strings={F:412042,A:,TEXTLONG:,C:,LINE:,B:,S1:,G:}\nstep 4: n=0 notes=0 split=- trials=0 in=41 out=2 state=running next=7 held=[] numbers={N:0,M:0} strings={F:412042,A:,TEXTLONG:2d2b41412c41312b413131304230202b2c30424131414132202b2c41202c304131202b412d20302c,C:,LINE:,B:,S1:,G:}\nstep 5: n=0 notes=0 split=- trials=0 in=41 out=2 state=running next=8 held=[] numbers={N:0,M:0} strings={F:412042,A:,TEXTLONG:2d2b41412c41312b413131304230202b2c30424131414132202b2c41202c304131202b412d20302c,C:303030303030303030,LINE:,B:,S1:,G:}\nstep 6: n=0 notes=0 split=- trials=0 in=41 out=6 state=running next=9 held=[] numbers={N:0,M:0} strings={F:412042,A:,TEXTLONG:2d2b41412c41312b413131304230202b2c30424131414132202b2c41202c304131202b412d20302c,C:303030303030303030,LINE:,B:,S1:,G:}\nstep 7: n=0 notes=1 split=- trials=0 in=82 out=6 state=running next=10 held=[] numbers={N:0,M:0} strings={F:412042,A:2b31,TEXTLONG:2d2b41412c41312b413131304230202b2c30424131414132202b2c41202c304131202b412d20302c,C:303030303030303030,LINE:,B:,S1:,G:}\nstep 8: n=0 notes=0 split=- trials=0 in=82 out=6 state=running next=11 held=[] numbers={N:0,M:0} strings={F:412042,A:2b31,TEXTLONG:2d2b41412c41312b413131304230202b2c30424131414132202b2c41202c304131202b412d20302c,C:303030303030303030,LINE:,B:2d30412042,S1:,G:}\nstep 9: n=0 notes=0 split=- trials=0 in=82 out=6 state=running next=12 held=[] numbers={N:0,M:0} strings={F:412042,A:2b31,TEXTLONG:2d2b41412c41312b413131304230202b2c30424131414132202b2c41202c304131202b412d20302c,C:303030303030303030,LINE:,B:2d30412042,S1:,G:}\nstep 10: n=0 notes=0 split=- trials=0 in=82 out=6 state=running next=14 held=[] numbers={N:0,M:0} strings={F:412042,A:2d2b41412c41312b413131304230202b2c30424131414132202b2c41202c304131202b412d20302c,TEXTLONG:2d2b41412c41312b413131304230202b2c30424131414132202b2c41202c304131202b412d20302c,C:303030303030303030,LINE:,B:2d30412042,S1:,G:}\nstep 11: n=0 notes=0 split=- trials=0 in=82 out=6 state=running next=16 held=[] numbers={N:0,M:0} strings={F:4120414242413241324142412d2b41412c41312b413131304230202b2c30424131414132202b2c41202c304131202b412d20302c30412042,A:2d2b41412c41312b413131304230202b2c30424131414132202b2c41202c304131202b412d20302c,TEXTLONG:2d2b41412c41312b413131304230202b2c30424131414132202b2c41202c304131202b412d20302c,C:303030303030303030,LINE:,B:2d30412042,S1:,G:}\nstep 12: n=0 notes=2 split=- trials=0 in=82 out=6 state=running next=17 held=[] numbers={N:0,M:0} strings={F:4120414242413241324142412d2b41412c41312b413131304230202b2c30424131414132202b2c41202c304131202b412d20302c30412042,A:2d2b41412c41312b413131304230202b2c30424131414132202b2c41202c304131202b412d20302c,TEXTLONG:2d2b41412c41312b413131304230202b2c30424131414132202b2c41202c304131202b412d20302c,C:303030303030303030,LINE:,B:2d30412042,S1:,G:}\nstep 13: n=0 notes=0 split=- trials=0 in=82 out=6 state=running next=18 held=[] numbers={N:0,M:0} strings={F:4120414242413241324142412d2b41412c41312b413131304230202b2c30424131414132202b2c41202c304131202b412d20302c30412042,A:2d2b41412c41312b413131304230202b2c30424131414132202b2c41202c304131202b412d20302c,TEXTLONG:2d2b41412c41312b413131304230202b2c30424131414132202b2c41202c304131202b412d20302c,C:303030303030303030,LINE:,B:2d30412042,S1:,G:}\nstep 14: n=0 notes=0 split=- trials=1 in=82 out=6 state=running next=19 held=[] numbers={N:0,M:0} strings={F:4120414242413241324142412d2b41412c41312b413131304230202b2c30424131414132202b2c41202c304131202b412d20302c30412042,A:2d2b41412c41312b413131304230202b2c30424131414132202b2c41202c304131202b412d20302c,TEXTLONG:2d2b41412c41312b413131304230202b2c30424131414132202b2c41202c304131202b412d20302c,C:303030303030303030,LINE:,B:2d30412042,S1:,G:}\nstep 15: n=0 notes=0 split=- trials=0 in=82 out=6 state=finished next=19 held=[] numbers={N:0,M:0} strings={F:4120414242413241324142412d2b41412c41312b413131304230202b2c30424131414132202b2c41202c304131202b412d20302c30412042,A:2d2b41412c41312b413131304230202b2c30424131414132202b2c41202c304131202b412d20302c,TEXTLONG:2d2b41412c41312b413131304230202b2c30424131414132202b2c41202c304131202b412d20302c,C:303030303030303030,LINE:,B:2d30412042,S1:,G:}\n" ≡ true
 unfolding agrees
 v145 = refl
 

@@ -1,4 +1,4 @@
--- The definitions answer the vectors, as computed facts: how an answer is written (Trace), decks (Decks..), scans (Scans).
+-- The definitions answer the vectors, as computed facts: how an answer is written (Trace), decks (Decks.., Wish..Decks..), scans (Scans).
 pub mod Decks00
 pub mod Decks01
 pub mod Decks02
@@ -22,3 +22,5 @@ pub mod Decks19
 pub mod Decks20
 pub mod Scans
 pub mod Trace
+pub mod Wish01Decks00
+pub mod Wish01Decks01

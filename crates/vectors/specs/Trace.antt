@@ -52,7 +52,7 @@ status stopped = bytes "stopped"
 unfoldable pub card_of : Program → ℕ → List ℕ
 card_of p k = digits (get_or (map (λ s. s.card) p.steps) k 0)
 
--- a deck's names, its program, the bytes of its input
+-- a deck's names, its program, how many bytes its input has; returns are written oldest first
 module _ (string_names number_names : List (List ℕ)) (p : Program) (size : ℕ) where
   unfoldable pub line : ℕ → Stepped → List ℕ
   line k s =
@@ -76,7 +76,7 @@ module _ (string_names number_names : List (List ℕ)) (p : Program) (size : ℕ
       ++ (bytes " next="
       ++ (card_of p c.next
       ++ (bytes " held=["
-      ++ (commas (map (card_of p) c.returns)
+      ++ (commas (map (card_of p) (reverse c.returns))
       ++ (bytes "] numbers={"
       ++ (commas (pairs number_names (map integer c.memory.numbers))
       ++ (bytes "} strings={"

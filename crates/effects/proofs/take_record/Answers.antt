@@ -33,9 +33,15 @@ returns c =
     let a = c.args in
     let n = c.next_record-n.result in
     let from = a.from in
-    let wanted : c.min-2.result ≡ min n (min a.most 1024) = c.min-2.ensures ∙ ap (min n) c.min.ensures in
-    subst (λ (j : ℕ). RecordTaken a.store.now c.put.new.store a.input.now a.place a.most from (Some (from + j))) (sym c.min-3.ensures)
+    let room : c.min-room.result ≡ min a.most 1024 = c.min-room.ensures in
+    let wanted : c.min.result ≡ min n (min a.most 1024) = c.min.ensures ∙ ap (min n) room in
+    let dropped : c.saturating_sub.result ≡ n - min a.most 1024 = c.saturating_sub.ensures ∙ ap (λ (j : ℕ). n - j) room in
+    subst (λ (j : ℕ). RecordTaken a.store.now c.put.new.store a.input.now a.place a.most from (Some (from + j)) c.saturating_sub.result)
+    (sym c.min-2.ensures)
+    (subst (RecordTaken a.store.now c.put.new.store a.input.now a.place a.most from (Some (from + min (n + 1) (length a.input.now - from))))
+    (sym dropped)
     (took_some a.store.now a.input.now a.place a.most from c.requires (omega arith) (omega arith) n c.next_record-n.ensures c.put.new.store
     (c.put.ensures
     ∙ ap (store_with a.store.now a.place)
-    (stretch_cut a.input.now from c.min-2.result ∙ ap (λ (j : ℕ). take j (drop from a.input.now)) wanted)))
+    (stretch_cut a.input.now from c.min.result ∙ ap (λ (j : ℕ). take j (drop from a.input.now)) wanted))
+    (within (goal.at.returns c).After-next_record-n)))

@@ -12,16 +12,16 @@ pub returns : goal.returns
 returns c output p s =
     let went = c.read_record in
     let a = c.args in
-    let moves = subst (λ r. RecordRead r a.store.now went.new.store a.state.now went.new.state a.input.now (part_meaning a.p)) c.in_ok-success.was went.ensures in
+    let moves = subst (λ r. RecordRead r a.store.now went.new.store a.state.now went.new.state a.input.now (part_meaning a.p)) c.in_ok-record.was went.ensures in
     rw c.take_branch.ensures
-    (reads p a.input.now (buffers a.store.now a.state.now output) s c.in_ok-success.success went.new.store went.new.state (part_meaning a.p)
+    (reads p a.input.now (buffers a.store.now a.state.now output) s c.in_ok-record.record went.new.store went.new.state (part_meaning a.p)
     (branch_meaning a.b) moves)
 
-pub returns-in_err-success : goal.returns-in_err-success
-returns-in_err-success c =
+pub returns-in_err-record : goal.returns-in_err-record
+returns-in_err-record c =
     let went = c.read_record in
     let a = c.args in
-    let halts = subst (λ r. RecordRead r a.store.now went.new.store a.state.now went.new.state a.input.now (part_meaning a.p)) c.in_err-success.was went.ensures in
+    let halts = subst (λ r. RecordRead r a.store.now went.new.store a.state.now went.new.state a.input.now (part_meaning a.p)) c.in_err-record.was went.ensures in
     let q = err_from_is_err_and c.from_residual.result c.from_residual.ensures.1 in
     rw (q.1, q.2)
     (λ output p s.

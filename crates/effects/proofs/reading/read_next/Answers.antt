@@ -5,19 +5,32 @@ use mathlib.Core.Path.{subst}
 use Prim.Native.Nat.{ℕ}
 use lib.ListN.{get_or}
 use Rattle.std.proofs.lemmas.List.{set-get_or}
-use Rattle.machine.specs.Step.{take_record}
-use Rattle.effects.specs.Reading.{Goes}
+use Rattle.machine.specs.Step.{cut_notes}
+use Rattle.effects.specs.Leaving.{RecordTaken}
+use Rattle.effects.specs.Reading.{NextRecord}
 use Rattle.effects.specs.ReadingLaws.{goes_on}
 use Rattle.effects.proofs.reading.read_next.Goals as goal
 
 pub returns-in_default : goal.returns-in_default
 returns-in_default c =
     let a = c.args in
-    let left = c.take_record.new.store in
-    subst (λ (l : List ℕ). Goes false a.store.now left a.state.now l a.input.now (take_record a.place a.most)) (set-get_or a.state.now 3 0)
-    (goes_on a.store.now left a.state.now a.input.now a.place a.most (get_or a.state.now 3 0) false c.requires c.in_default.ensures.1)
+    let went = c.take_record-record in
+    let left = went.new.store in
+    let from = get_or a.state.now 3 0 in
+    let dropped = went.result.dropped in
+    let none = subst (λ t. RecordTaken a.store.now left a.input.now a.place a.most from t dropped) c.in_default.is went.ensures in
+    rw c.cut_notes-notes.ensures
+    (subst
+    (λ (l : List ℕ). NextRecord (record { value = false; notes = cut_notes dropped }) a.store.now left a.state.now l a.input.now a.place a.most)
+    (set-get_or a.state.now 3 0)
+    (goes_on a.store.now left a.state.now a.input.now a.place a.most from dropped false c.requires none.2))
 
 pub returns : goal.returns
 returns c =
     let a = c.args in
-    goes_on a.store.now c.take_record.new.store a.state.now a.input.now a.place a.most c.in-Some.to true c.requires c.in-Some.ensures.1
+    let went = c.take_record-record in
+    let left = went.new.store in
+    let dropped = went.result.dropped in
+    let some = subst (λ t. RecordTaken a.store.now left a.input.now a.place a.most (get_or a.state.now 3 0) t dropped) c.in-Some.is went.ensures in
+    rw c.cut_notes-notes.ensures
+    (goes_on a.store.now left a.state.now a.input.now a.place a.most c.in-Some.to dropped true c.requires some.1)

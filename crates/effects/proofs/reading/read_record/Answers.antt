@@ -3,7 +3,7 @@ use Rattle.std.proofs.Common.{sym, subst, ℕ, Ok}
 use Rattle.std.proofs.lemmas.Result.{err_from_is_err_and}
 use Rattle.decoder.specs.Meaning.{length_meaning, part_meaning}
 use Rattle.effects.specs.Reading.{NextRecord, RecordRead}
-use Rattle.effects.specs.ReadingLaws.{first_halts, first_moves, whole_moves}
+use Rattle.effects.specs.ReadingLaws.{first_halts, first_goes, whole_goes}
 use Rattle.effects.proofs.reading.read_record.Goals as goal
 
 pub returns-in_err-most-in-First : goal.returns-in_err-most-in-First
@@ -19,7 +19,7 @@ returns-in-Whole c =
     let a = c.args in
     let went = c.read_next in
     subst (λ p. RecordRead (Ok went.result) a.store.now went.new.store a.state.now went.new.state a.input.now (part_meaning p)) (sym c.in-Whole.is)
-    (whole_moves a.store.now went.new.store a.state.now went.new.state a.input.now c.in-Whole.place went.result went.ensures)
+    (whole_goes a.store.now went.new.store a.state.now went.new.state a.input.now c.in-Whole.place went.result went.ensures)
 
 pub returns-in_ok-most-in-First : goal.returns-in_ok-most-in-First
 returns-in_ok-most-in-First c =
@@ -30,4 +30,4 @@ returns-in_ok-most-in-First c =
     let next = subst (λ (j : ℕ). NextRecord went.result a.store.now went.new.store a.state.now went.new.state a.input.now c.in-First.place j)
     asks.1 went.ensures in
     subst (λ p. RecordRead (Ok went.result) a.store.now went.new.store a.state.now went.new.state a.input.now (part_meaning p)) (sym c.in-First.is)
-    (first_moves a.store.now went.new.store a.state.now went.new.state a.input.now c.in-First.place went.result n asks.0 next)
+    (first_goes a.store.now went.new.store a.state.now went.new.state a.input.now c.in-First.place went.result n asks.0 next)
