@@ -904,6 +904,7 @@ size_t random_input(struct draws *d, uint8_t input[INPUT_ROOM])
     if (one_in(d, n > 1000 ? 2 : 15))
         for (size_t i = 0; i < n; i++)
             if (input[i] == 10) input[i] = '1';
+    /* a first record of 1,023 to 1,025 bytes */
     if (n > MOST_STRING + 1 && one_in(d, 2)) {
         for (size_t i = 0; i < MOST_STRING; i++)
             if (input[i] == 10) input[i] = '1';

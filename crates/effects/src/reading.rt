@@ -21,7 +21,8 @@ fn cut_notes(dropped: usize) -> u32
     u32::from(dropped != 0)
 }
 
-// takes the next record of the input that the state knows of, if there is one and one is asked for: whether one was taken
+// Takes the next record of the input that the state knows of, if there is one and one is asked for. Gives whether it did, with a note if the
+// record was cut.
 fn read_next(
     store: &mut [u8],
     state: &mut [u64; STATE_SIZE],

@@ -47,6 +47,7 @@ taken_state s most b c = chosen_state (eqb most 0 || is_nil c.input) _ _
     chosen_state true x y = refl
     chosen_state false x y = refl
 
+-- what a READ comes to is what it came to, with the note of the record taken
 taken_cut : (t : Taken) (s : State) → t.state ≡ s → cut_noted t ≡ with_notes (cut_notes t.dropped) (moving s)
 unfolding cut_noted with_notes moving pure
 taken_cut t s same =

@@ -97,17 +97,13 @@ taking_status : (s most : ℕ) (b : Branch) (c : State) → (take_record s most 
 unfolding take_record going_to with_input
 taking_status s most b c = cond_cases (λ (t : Taken). t.state.status ≡ c.status) (eqb most 0 || is_nil c.input) (λ q. refl) (λ q. refl)
 
-cut_noted_state : (t : Taken) (d : Done) (n : ℕ) → cut_noted t ≡ done d n → d.state ≡ t.state
-unfolding cut_noted
-cut_noted_state t d n q = ap (λ x. x.state) (sym (done_value q))
-
 reading-status : (q : Part) (b : Branch) (c : State) (d : Done) (n : ℕ) → reading q b c ≡ done d n → d.state.status ≡ c.status
-unfolding reading
-reading-status (whole s) b c d n h = ap (λ x. x.status) (cut_noted_state _ d n h) ∙ taking_status s longest_string b c
+unfolding reading cut_noted
+reading-status (whole s) b c d n h = ap (λ (x : Done). x.state.status) (sym (done_value h)) ∙ taking_status s longest_string b c
 reading-status (first s k) b c d n h =
     let z = length_in c.memory k in
     cond_cases (λ w. w ≡ done d n → d.state.status ≡ c.status) (is_negative z) (λ q h. absurd (stop_not_done 17 d n h))
-    (λ q h. ap (λ x. x.status) (cut_noted_state _ d n h) ∙ taking_status s (nat_abs z) b c) h
+    (λ q h. ap (λ (x : Done). x.state.status) (sym (done_value h)) ∙ taking_status s (nat_abs z) b c) h
 
 putting_status : (lent : ℕ) (v : List ℕ) (c d : State) (n : ℕ) → put_record lent v c ≡ done d n → d.status ≡ c.status
 unfolding put_record pure with_output
