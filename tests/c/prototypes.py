@@ -1,10 +1,10 @@
 #!/usr/bin/env python3
-"""Prints C declarations of all calls that the crates export, as their sources have them, to be compared with the header by the compiler."""
+"""Prints C declarations of all calls that the crate library exports, as its source has them, to be compared with the header by the compiler."""
 import glob, re
 
 NUMBERS = {"u8": "uint8_t", "u32": "uint32_t", "u64": "uint64_t"}
-SOURCES = [open(path).read() for path in sorted(glob.glob("crates/*/src/*.rt"))]
-SIZES = dict(re.findall(r"pub const (\w+_SIZE): usize = (\d+);", "".join(SOURCES)))
+SIZES = dict(size for path in glob.glob("crates/*/src/*.rt") for size in re.findall(r"pub const (\w+_SIZE): usize = (\d+);", open(path).read()))
+CALL = re.compile(r'#\[unsafe\(no_mangle\)\]\npub extern "C" fn (\w+)\((.*?)\) -> (u32)\n', re.S)
 
 
 def parameter(name, kind):
@@ -19,7 +19,6 @@ def parameter(name, kind):
 
 
 print('#include "strigol.h"')
-for text in SOURCES:
-    for name, inner, result in re.findall(r'#\[unsafe\(no_mangle\)\]\npub extern "C" fn (\w+)\((.*?)\) -> (u32)\n', text, re.S):
-        pairs = [p.split(":", 1) for p in re.split(r",\s*(?=\w+:)", inner.strip().rstrip(","))]
-        print(f"{NUMBERS[result]} {name}({', '.join(parameter(n.strip(), k.strip()) for n, k in pairs)});")
+for name, inner, result in CALL.findall(open("crates/library/src/lib.rt").read()):
+    pairs = [p.split(":", 1) for p in re.split(r",\s*(?=\w+:)", inner.strip().rstrip(","))]
+    print(f"{NUMBERS[result]} {name}({', '.join(parameter(n.strip(), k.strip()) for n, k in pairs)});")

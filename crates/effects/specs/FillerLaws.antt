@@ -12,7 +12,7 @@ use Rattle.std.proofs.lemmas.List.{get_or-take}
 use Rattle.std.proofs.Math.Seq.{drop-drop, set_out}
 use Rattle.std.proofs.lemmas.Bool.{eqb-false}
 use Rattle.base.specs.Choice.{test_cases}
-use Rattle.base.specs.ListLaws.{drop-next, get_or_stretch, length_stretch, stretch_within, stretch_cut}
+use Rattle.base.specs.ListLaws.{drop-next, get_or_stretch, length_stretch, stretch_within}
 use Rattle.base.specs.Lists.{total}
 use Rattle.encoding.specs.BufferLaws.{StoreGood, good_image, good_short, store_with, count-strings, with-strings}
 use Rattle.encoding.specs.Buffers.{store_image, store_size, strings_in}
@@ -183,21 +183,20 @@ module _ {store reference names answer : List ℕ} {count at i : ℕ} {now : Lis
       subst (λ (ls : List ℕ). at + total (λ l. l) ls ≤ length reference) (next-length answer count i size q.few h) p.inside
 
   pub namings_more : i < count → {l : ℕ} → l ≡ get_or answer (4 + i) 0 → {after : List ℕ}
-      → after ≡ renamed now (get_or names i 0) (take (at + l - at) (drop at reference))
+      → after ≡ renamed now (get_or names i 0) (take l (drop at reference))
       → Namings store reference names answer count (at + l) (i + 1) after
   unfolding naming
   namings_more h {l} e {after} is =
       let ls = lengths_in answer count in
       let piece = take l (drop at reference) in
       let short : length piece ≤ 1024 = omega (arith, stretch_within reference at l, q.short) in
-      let one : after ≡ renamed now (get_or names i 0) piece = is ∙ ap (renamed now (get_or names i 0)) (stretch_cut reference at l) in
       let behind : drop l (drop at reference) ≡ drop (at + l) reference = drop-drop l at reference in
       let lengths : drop i ls ≡ l ∷ drop (i + 1) ls =
       next-length answer count i size q.few h ∙ ap (λ (x : ℕ). x ∷ drop (i + 1) ls) (sym e) in
       let rest : at + (l + total (λ x. x) (drop (i + 1) ls)) ≤ length reference =
       subst (λ (x : ℕ). at + (x + total (λ y. y) (drop (i + 1) ls)) ≤ length reference) (sym e) (next_inside h) in
       record {
-        stays = stays_on p.stays (subst (StoreStays now) (sym one) (stays_renamed now p.stays.good (get_or names i 0) piece short));
+        stays = stays_on p.stays (subst (StoreStays now) (sym is) (stays_renamed now p.stays.good (get_or names i 0) piece short));
         most = omega arith;
         inside = omega arith;
         work =
@@ -209,7 +208,7 @@ module _ {store reference names answer : List ℕ} {count at i : ℕ} {now : Lis
             ∙ ap₂ (λ (r : List ℕ) m. naming (drop (i + 1) vs) r (drop (i + 1) ls) m) behind
             (ap (λ x. named x piece (memory_of now numbers)) (ns.each i (omega arith))
             ∙ named-renamed now p.stays.good (get_or names i 0) piece short numbers
-            ∙ ap (λ (x : List ℕ). memory_of x numbers) (sym one));
+            ∙ ap (λ (x : List ℕ). memory_of x numbers) (sym is));
       }
 
   pub namings_all : count ≤ i → PiecesNamed store now reference names answer count
@@ -241,6 +240,12 @@ string-renamed store g s v k i h =
     (λ e.
     let out : 32 ≤ s = ltb-false s 32 e in
     rw (ne_eqb i s (λ z. omega arith)))
+
+-- any other is as it was
+pub renamed_other : (store : List ℕ) → StoreGood store → (s : ℕ) (v : List ℕ) → length v ≤ 1024 → (i : ℕ) → i < 32 → (s ≡ i → ⊥)
+    → string_of (renamed store s v) i ≡ string_of store i
+renamed_other store g s v k i h o =
+    string-renamed store g s v k i h ∙ ap (λ t. cond t v (string_of store i)) (ne_eqb i s (λ e. o (sym e)))
 
 -- the elements of a pattern from a place on are left whose fillers are to be copied
 pub record Copies (table : List ℕ) (s : Stretch) (source to : List ℕ) (at : ℕ) (now : List ℕ) : Type 0 where

@@ -1,16 +1,19 @@
 -- The fillers of a scan in a store: what it is to make them null and to name them. Assumes nothing.
-use Rattle.std.specs.Prelude.{Bool, false, cond, ◌||◌, List, [], ◌∷◌, ◌≡◌, ℕ, ◌+◌, ◌≤◌, ◌<◌, eqb, ltb, ℤ, length, take, drop, get_or}
+use Rattle.std.specs.Prelude.{Bool, false, cond, ◌||◌, List, [], ◌∷◌, ◌≡◌, ℕ, ◌+◌, ◌-◌, ◌≤◌, ◌<◌, eqb, ltb, ℤ, length, take, drop, get_or}
 use Rattle.std.proofs.Math.Option.{Option, none, some}
 use Rattle.base.specs.Current.{table_size}
 use Rattle.base.specs.Lists.{total}
 use Rattle.encoding.specs.BufferLaws.{StoreGood, store_with}
 use Rattle.store.specs.Clauses.{string_of}
-use Rattle.syntax.specs.Program.{PatternElement, value, free_filler, fixed_filler}
+use Rattle.syntax.specs.Program.{Direction, PatternElement, value, free_filler, fixed_filler}
 use Rattle.machine.specs.Scanning.{Valued, without_fillers, naming}
 use Rattle.decoder.specs.Meaning.{patterns_meaning}
 use Rattle.decoder.specs.declared.Stretch.{Stretch}
 use Rattle.scanning.specs.Splits.{free}
 use Rattle.effects.specs.Leaving.{memory_of, StoreStays}
+use Rattle.effects.specs.References.{CopiedFor, turned_reference}
+use Rattle.effects.specs.Valued.{Between}
+use Rattle.effects.specs.declared.Span.{Span}
 
 -- the place of a filler; 32, which is none, for a value
 abbrev pub filler_of : PatternElement → ℕ
@@ -48,6 +51,20 @@ pub record Nameable (store reference names answer : List ℕ) (count : ℕ) : Ty
   pub places : count ≤ length names
   pub short : length reference ≤ 1024
   pub pieces : get_or answer 1 0 + total (λ l. l) (lengths_in answer count) ≤ length reference
+
+-- they lie in the bytes of a span, of which a BACKSCAN has a copy; none of them is to name the string that has these bytes
+pub record SpanNameable (store : List ℕ) (d : Direction) (at : Span) (copy names answer : List ℕ) (count : ℕ) : Type 0 where
+  pub pieces : Nameable store (turned_reference store d at) names answer count
+  pub between : Between store at.place at.from at.to
+  pub copied : CopiedFor d store at copy
+  pub apart : (i : ℕ) → i < count → get_or names i 0 ≡ at.place → ⊥
+
+-- a piece of these bytes
+pub record PieceNameable (store : List ℕ) (d : Direction) (at : Span) (copy : List ℕ) (start n : ℕ) : Type 0 where
+  pub good : StoreGood store
+  pub between : Between store at.place at.from at.to
+  pub copied : CopiedFor d store at copy
+  pub inside : start + n ≤ at.to - at.from
 
 -- an element that names nothing: what lies behind the last of them
 abbrev pub nobody : Valued

@@ -1,9 +1,9 @@
 -- A string that is no filler stays while fillers are made null and named; so does the string that a scan searches. Assumes nothing.
-use Rattle.std.specs.Prelude.{false, refl, ℕ, eqb, length, drop, get_or}
+use Rattle.std.specs.Prelude.{false, refl, ℕ, zero, suc, ◌<◌, eqb, length, drop, get_or}
 use mathlib.Core.List.{List, [], ◌∷◌}
 use Rattle.std.proofs.Math.Option.{Option, none, some}
 use Rattle.std.proofs.Math.Path.{◌≡◌, subst}
-use Rattle.std.proofs.Common.{sym, ap, ◌∙◌, arith, get_or-set_other}
+use Rattle.std.proofs.Common.{sym, ap, ◌∙◌, arith, get_or-set_other, lt-ltb}
 use Rattle.std.proofs.lemmas.Bool.{eqb-false}
 use Rattle.base.specs.Choice.{cond_cases, neither_true}
 use Rattle.base.specs.Edition.{Edition}
@@ -17,7 +17,7 @@ use Rattle.decoder.specs.Meaning.{patterns_meaning}
 use Rattle.decoder.specs.declared.Stretch.{Stretch}
 use Rattle.values.specs.Numbers.{is_negative}
 use Rattle.values.specs.Result.{Result, done, pure}
-use Rattle.effects.specs.Fillers.{PlacesNamed, PiecesNamed, Nulled, filler_of, is_filler, lengths_in}
+use Rattle.effects.specs.Fillers.{PlacesNamed, PiecesNamed, Nulled, filler_of, is_filler, lengths_in, named_string, nobody}
 use Rattle.effects.specs.Leaving.{memory_of}
 
 -- another string set
@@ -92,7 +92,28 @@ module _ (e : Edition) (m : Memory) (i : ℕ) where
         pattern_names xs two.front two.front_notes two.is_front both.1,
       )
 
--- behind a scan that made its fillers null and named them, every other string of the store is as it was
+-- where no element names string i, the one at a place doesn't
+unnamed_at : (vs : List Valued) (i k : ℕ) → Unnamed i vs → k < length vs → (get_or vs k nobody).names ≡ some i → ⊥
+unfolding Unnamed
+unnamed_at [] i k u h = absurd (omega arith)
+unnamed_at (v ∷ vs) i zero u h = u.0
+unnamed_at (v ∷ vs) i (suc k) u h = unnamed_at vs i k u.1 (omega arith)
+
+-- so no place that they name is that string's
+pub place_apart : (names : List ℕ) (vs : List Valued) → PlacesNamed names vs → (i : ℕ) → i < 32 → Unnamed i vs
+    → (k : ℕ) → k < length vs → get_or names k 0 ≡ i → ⊥
+unfolding named_string
+place_apart names vs p i h u k j e =
+    unnamed_at vs i k u j (p.each k j ∙ ap named_string e ∙ rw (lt-ltb i 32 h))
+
+-- behind a scan that made its fillers null every other string of the store is as it was
+pub nulled_other : (table : List ℕ) (s : Stretch) (store nulled : List ℕ) → Nulled table s store nulled
+    → (i : ℕ) → is_filler i (patterns_meaning table s) ≡ false → string_of nulled i ≡ string_of store i
+unfolding string_at
+nulled_other table s store nulled n i e =
+    ap (λ m. string_at m i) (sym (n.work [])) ∙ null_others (patterns_meaning table s) (memory_of store []) i e
+
+-- and behind one that then named them
 pub others_stay : (table : List ℕ) (s : Stretch) (store nulled left reference names answer : List ℕ) (count : ℕ)
     → Nulled table s store nulled → PiecesNamed nulled left reference names answer count
     → (vs : List Valued) → length vs ≡ count → PlacesNamed names vs → (i : ℕ) → is_filler i (patterns_meaning table s) ≡ false → Unnamed i vs
@@ -102,5 +123,4 @@ others_stay table s store nulled left reference names answer count n p vs size n
     let at : Memory → List ℕ = λ m. string_at m i in
     ap at (sym (p.work vs [] size ns))
     ∙ naming_others vs (drop (get_or answer 1 0) reference) (lengths_in answer count) (memory_of nulled []) i u
-    ∙ ap at (sym (n.work []))
-    ∙ null_others (patterns_meaning table s) (memory_of store []) i e
+    ∙ nulled_other table s store nulled n i e

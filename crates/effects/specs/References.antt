@@ -3,7 +3,7 @@ use Rattle.std.specs.Prelude as std
 use Rattle.std.specs.Prelude.{Ok, Err, List, ◌≡◌, ℕ, ◌-◌, take, drop}
 use Rattle.store.specs.Clauses.{string_of}
 use Rattle.syntax.specs.Program.{Direction, forward, backward}
-use Rattle.machine.specs.Scanning.{Searched}
+use Rattle.machine.specs.Scanning.{Searched, turned}
 use Rattle.decoder.specs.Holds.{searched_place}
 use Rattle.decoder.specs.declared.Part.{Part}
 use Rattle.values.specs.Result.{Result, done, stop}
@@ -18,6 +18,15 @@ stretch_of v from to = take (to - from) (drop from v)
 
 abbrev pub reference_of : (store : List ℕ) → (place from to : ℕ) → List ℕ
 reference_of store place from to = stretch_of (string_of store place) from to
+
+-- the reference as a scan of the bytes of a span looks through it: in a BACKSCAN turned round
+abbrev pub turned_reference : (store : List ℕ) → Direction → Span → List ℕ
+turned_reference store d at = turned d (reference_of store at.place at.from at.to)
+
+-- a copy of it for a BACKSCAN; a SCAN needs none
+unfoldable pub CopiedFor : Direction → (store : List ℕ) → Span → List ℕ → Type 0
+CopiedFor forward store at copy = Unit {0}
+CopiedFor backward store at copy = copy ≡ turned_reference store backward at
 
 -- a string searched there
 abbrev pub searched_at : (place from to : ℕ) → List ℕ → Searched

@@ -4,12 +4,13 @@ ghost use Rattle.std.specs.Prelude.{◌≡◌, ◌≤◌};
 ghost use Rattle.encoding.specs.BufferLaws.{StoreGood};
 ghost use Rattle.encoding.specs.Splices.{splice};
 ghost use Rattle.evaluator.specs.Meaning.{memory_meaning};
-ghost use Rattle.machine.specs.Scanning.{searched_in, turned};
+ghost use Rattle.machine.specs.Scanning.{searched_in};
 ghost use Rattle.decoder.specs.Holds.{PartHolds};
 ghost use Rattle.decoder.specs.Meaning.{part_meaning};
 ghost use Rattle.encoding.specs.Meaning.{direction_meaning};
-ghost use Rattle.effects.specs.References.{Refers, restricted_by, reference_of};
+ghost use Rattle.effects.specs.References.{Refers, restricted_by, turned_reference};
 ghost use Rattle.effects.specs.Valued.{Between};
+ghost use Rattle.syntax.specs.Program.{backward};
 
 use crate::{Span, asked};
 use base::LONGEST;
@@ -56,17 +57,12 @@ pub fn reference_ends(memory: Memory, d: Direction, p: Part) -> Result<Span, Sto
     }
 }
 
-// copies the reference to the front of a string's buffer
-pub fn copy_reference(store: &[u8], at: Span, d: Direction, out: &mut [u8; LONGEST])
+// copies the reference of a BACKSCAN to the front of a string's buffer, turned round
+pub fn turn_reference(store: &[u8], at: Span, out: &mut [u8; LONGEST])
     requires store_good { StoreGood store.now }
     requires between { Between store.now at.place at.from at.to }
-    ensures { out.new
-        ≡ splice out.old 0 (turned (direction_meaning d) (reference_of store.now at.place at.from at.to)) }
+    ensures { out.new ≡ splice out.old 0 (turned_reference store.now backward at) }
 {
     let string = store::string(store, at.place);
-    let reference = &string[at.from..at.to];
-    match d {
-        Direction::Forward => store::spans::write(out, 0, reference),
-        Direction::Backward => store::spans::copy_turned(reference, out),
-    }
+    store::spans::copy_turned(&string[at.from..at.to], out);
 }

@@ -5,39 +5,33 @@ use Rattle.std.proofs.Math.Path.{ap}
 use Rattle.base.specs.Current.{current}
 use Rattle.encoding.specs.BufferLaws.{StoreGood, good_short}
 use Rattle.encoding.specs.Splices.{splice, take-front}
+use Rattle.syntax.specs.Program as Program
 use Rattle.store.specs.Clauses.{string_of}
 use Rattle.evaluator.specs.Memory.{memory_in}
-use Rattle.machine.specs.Bounds.{turned-length}
 use Rattle.machine.specs.Scanning.{leaving, pattern_in, scanning_in, searched_in, turned, without_fillers}
 use Rattle.decoder.specs.Meaning.{part_meaning, patterns_meaning, replacement_meaning}
 use Rattle.encoding.specs.Meaning.{direction_meaning}
-use Rattle.encoding.specs.declared.cells.Direction.{Direction}
 use Rattle.decoder.specs.declared.Scan.{Scan}
-use Rattle.effects.specs.References.{reference_of, searched_at}
+use Rattle.effects.specs.ReferenceLaws.{reference_size}
+use Rattle.effects.specs.References.{searched_at, turned_reference}
 use Rattle.effects.specs.Valued.{Between}
 use Rattle.effects.specs.declared.Span.{Span}
 use Rattle.values.specs.Result.{done, stop, ◌>>=◌}
 use Rattle.values.specs.ResultLaws.{stopped, notes_none}
 use Rattle.scan_statement.specs.Scans.{scanning_of}
 use Rattle.scan_statement.specs.Searches.{scan_of}
-use Rattle.scan_statement.specs.StageLaws.{reference_length}
 use Rattle.scan_statement.specs.Stages.{searched_rest}
 
-module _ (store : List ℕ) (at : Span) (g : StoreGood store) (b : Between store at.place at.from at.to) where
-  -- a reference has room in a string's buffer
-  pub reference_fits : at.to - at.from ≤ 1024
-  reference_fits = omega (arith, b.order, b.within, good_short store g at.place)
+-- a reference has room in a string's buffer, and is what stands there once it was copied to its front
+module _ (store : List ℕ) (at : Span) (b : Between store at.place at.from at.to) where
+  pub reference_fits : StoreGood store → at.to - at.from ≤ 1024
+  reference_fits g = omega (arith, b.order, b.within, good_short store g at.place)
 
-  -- and is what stands there once it was copied
-  module _ (d : Direction) (before after : List ℕ)
-      (e : after ≡ splice before 0 (turned (direction_meaning d) (reference_of store at.place at.from at.to))) where
-    turned-size : length (turned (direction_meaning d) (reference_of store at.place at.from at.to)) ≡ at.to - at.from
-    turned-size = turned-length (direction_meaning d) _ ∙ reference_length store at b
-
-    pub copied_reference : take (at.to - at.from) after ≡ turned (direction_meaning d) (reference_of store at.place at.from at.to)
-    copied_reference =
-        let v = turned (direction_meaning d) (reference_of store at.place at.from at.to) in
-        ap (λ (n : ℕ). take n after) (sym turned-size) ∙ ap (take (length v)) e ∙ take-front before v
+  pub copied_reference : (d : Program.Direction) (before after : List ℕ) → after ≡ splice before 0 (turned_reference store d at)
+      → take (at.to - at.from) after ≡ turned_reference store d at
+  copied_reference d before after e =
+      let v = turned_reference store d at in
+      ap (λ (n : ℕ). take n after) (sym (reference_size store d at b)) ∙ ap (take (length v)) e ∙ take-front before v
 
 module _ (table store state : List ℕ) (s : Scan) where
   -- with a reference, the work is what is left of it

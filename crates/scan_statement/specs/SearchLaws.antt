@@ -9,7 +9,12 @@ use Rattle.std.proofs.lemmas.List.{length-replicate}
 use Rattle.std.proofs.lemmas.List.Sums.{sum_by-cons}
 use Rattle.encoding.specs.ReadingLaws.{rows_length}
 use Rattle.base.specs.Lists.{total}
+use Rattle.syntax.specs.Program as Program
 use Rattle.machine.specs.Scanning.{Valued, naming}
+use Rattle.store.specs.Clauses.{string_of}
+use Rattle.encoding.specs.Meaning.{direction_meaning}
+use Rattle.encoding.specs.declared.cells.Direction.{Direction}
+use Rattle.decoder.specs.Meaning.{patterns_meaning}
 use Rattle.decoder.specs.declared.Stretch.{Stretch}
 use Rattle.scan.specs.Rows.{scan_elements, pattern_of, scan_element, row_element}
 use Rattle.scanning.specs.Call.{answer_numbers, most_elements, split_numbers}
@@ -18,12 +23,15 @@ use Rattle.scanning.specs.Laws.{fits_count}
 use Rattle.scanning.specs.Splits.{Element, FirstFit, Fits, PiecesFit, Split}
 use Rattle.scanning.specs.Trials.{Scanned, scan}
 use Rattle.effects.specs.FillerLaws.{stays_on}
-use Rattle.effects.specs.Fillers.{Nameable, PiecesNamed, Nulled, lengths_in}
+use Rattle.effects.specs.Fillers.{Nameable, PiecesNamed, Nulled, SpanNameable, is_filler, lengths_in}
 use Rattle.effects.specs.Leaving.{memory_of}
-use Rattle.effects.specs.OtherLaws.{others_stay}
+use Rattle.effects.specs.OtherLaws.{nulled_other, others_stay}
+use Rattle.effects.specs.ReferenceLaws.{between_same, copied_same, reference_same}
+use Rattle.effects.specs.References.{CopiedFor, turned_reference}
+use Rattle.effects.specs.declared.Span.{Span}
 use Rattle.scan_statement.specs.LongLaws.{scan-rowed}
 use Rattle.scan_statement.specs.Patterns.{Rowed, rowed}
-use Rattle.scan_statement.specs.Searches.{SplitFound, RowsSearchable, SplitSearched, scan_of}
+use Rattle.scan_statement.specs.Searches.{AnswerNameable, AnswerNamed, NamedBy, SplitFound, RowsSearchable, SpanSearchable, SplitSearched, scan_of}
 
 -- a list's sum is the total of its numbers
 pub sum_total : (ls : List ℕ) → sum ls ≡ total (λ l. l) ls
@@ -126,7 +134,7 @@ module _ {table store : List ℕ} {s : Stretch} {reference values rows : List �
       subst (Has a.split) (sym answer_is)
       (split_some a.split a.trials 0 (λ e. h (ap (λ (l : List ℕ). get_or l 0 0) answer_is ∙ e)))
 
-  pub missed : get_or answer 0 0 ≡ 0 → {names nulled : List ℕ} → Nulled table s store nulled
+  missed : get_or answer 0 0 ≡ 0 → {names nulled : List ℕ} → Nulled table s store nulled
       → SplitSearched false table store nulled s reference values rows names answer
   missed e n =
       record {
@@ -153,10 +161,10 @@ module _ {table store : List ℕ} {s : Stretch} {reference values rows : List �
     within : found.split.start + total (λ l. l) found.split.lengths ≤ length reference
     within = split_within pattern reference found.split fits
 
-    pub nameable : {names nulled : List ℕ} → length names ≡ 20 → Nulled table s store nulled → Nameable nulled reference names answer s.count
-    nameable size n =
+    nameable : {names : List ℕ} → length names ≡ 20 → Nameable store reference names answer s.count
+    nameable size =
         record {
-          good = n.stays.good;
+          good = q.good;
           few = q.lines.few;
           places = omega (arith, q.lines.few);
           short = q.short;
@@ -165,7 +173,7 @@ module _ {table store : List ℕ} {s : Stretch} {reference values rows : List �
               (subst (λ (ls : List ℕ). found.split.start + total (λ l. l) ls ≤ length reference) (sym (found.lengths s.count counted)) within);
         }
 
-    pub named : {names nulled left : List ℕ} → Nulled table s store nulled → PiecesNamed nulled left reference names answer s.count
+    named : {names nulled left : List ℕ} → Nulled table s store nulled → PiecesNamed nulled left reference names answer s.count
         → SplitSearched true table store left s reference values rows names answer
     named {names} {nulled} {left} n m =
         record {
@@ -192,3 +200,55 @@ module _ {table store : List ℕ} {s : Stretch} {reference values rows : List �
                     };
               };
         }
+
+-- No filler is the string searched, so its bytes are there still when the fillers are null, and its pieces can be named.
+module _ {table store nulled : List ℕ} {s : Stretch} (n : Nulled table s store nulled) (way : Program.Direction) (at : Span)
+    (clear : is_filler at.place (patterns_meaning table s) ≡ false) where
+  same : string_of nulled at.place ≡ string_of store at.place
+  same = nulled_other table s store nulled n at.place clear
+
+  pub reference_still : turned_reference nulled way at ≡ turned_reference store way at
+  reference_still = reference_same store nulled way at same
+
+  pub span_still : {copy names answer : List ℕ} {count : ℕ} → SpanNameable store way at copy names answer count
+      → SpanNameable nulled way at copy names answer count
+  span_still {copy} {names} {answer} {count} p =
+      record {
+        pieces =
+            subst (λ (r : List ℕ). Nameable nulled r names answer count) (sym reference_still)
+            (record {
+              good = n.stays.good;
+              few = p.pieces.few;
+              places = p.pieces.places;
+              short = p.pieces.short;
+              pieces = p.pieces.pieces;
+            });
+        between = between_same p.between same;
+        copied = copied_same store nulled at copy way p.copied same;
+        apart = p.apart;
+      }
+
+-- no split: the fillers are null
+pub none_named : {table store nulled : List ℕ} {d : Direction} {at : Span} {s : Stretch} {names answer : List ℕ} → get_or answer 0 0 ≡ 0
+    → Nulled table s store nulled → AnswerNamed false table store nulled d at s names answer
+none_named e n = record { by = record { none-found = e; null = n } }
+
+-- The search of the bytes of a span, once its answer is known.
+module _ {table store : List ℕ} {d : Direction} {at : Span} {s : Stretch} {values rows names : List ℕ}
+    (q : SpanSearchable table store d at s values rows names) {answer : List ℕ}
+    (answer_is : answer ≡ answer_numbers 0 (scan (pattern_of values rows s.count) (turned_reference store (direction_meaning d) at))) where
+  pub span_nameable : {copy : List ℕ} → CopiedFor (direction_meaning d) store at copy → length names ≡ 20
+      → AnswerNameable table store d at s copy names answer
+  span_nameable copied size =
+      record {
+        fillers = record { bytes = q.rows_are.bytes; inside = q.rows_are.inside; good = q.rows_are.good };
+        clear = q.clear;
+        pieces =
+            λ some-found.
+            record { pieces = nameable q.rows_are answer_is some-found size; between = q.between; copied = copied; apart = q.apart };
+      }
+
+  pub span_searched : (is : Bool) {left : List ℕ} → NamedBy is table store left d at s names answer
+      → SplitSearched is table store left s (turned_reference store (direction_meaning d) at) values rows names answer
+  span_searched true n = named q.rows_are answer_is n.found n.null n.pieces
+  span_searched false n = missed q.rows_are answer_is n.none-found n.null

@@ -4,7 +4,7 @@ use Rattle.std.specs.Prelude.{Some, None, true, false, Ok, Err, ℕ, ◌+◌, �
 use mathlib.Core.List.{List, ◌++◌}
 use Rattle.std.proofs.Math.Option.{Option, some}
 use Rattle.std.proofs.Math.Path.{◌≡◌, refl, sym, ap, ap₂}
-use Rattle.std.proofs.Common.{subst, ◌∙◌, add-zero, length-drop, take-append-drop}
+use Rattle.std.proofs.Common.{subst, ◌∙◌, add-zero, take-append-drop}
 use native.Mathlib.Omega.{arith}
 use Rattle.std.proofs.Math.ListN.{length}
 use Rattle.std.proofs.Math.Seq.{length-take-le}
@@ -19,8 +19,7 @@ use Rattle.evaluator.specs.Memory.{memory_in}
 use Rattle.evaluator.specs.Notes.{FewNotes, few_bind, few_done, few_elements_spelt}
 use Rattle.syntax.specs.Program as Program
 use Rattle.machine.specs.Expressions.{string_in}
-use Rattle.machine.specs.Bounds.{turned-length}
-use Rattle.machine.specs.Scanning.{ScanLeft, Searched, Valued, leaving, naming, replacing, storing, turned, without_fillers}
+use Rattle.machine.specs.Scanning.{ScanLeft, Searched, Valued, leaving, replacing, storing, turned, without_fillers}
 use Rattle.machine.specs.State.{Memory}
 use Rattle.decoder.specs.Holds.{ReplacementHolds}
 use Rattle.decoder.specs.Meaning.{elements_meaning, patterns_meaning, replacement_meaning}
@@ -31,8 +30,9 @@ use Rattle.scanning.specs.Trials as Trials
 use Rattle.effects.specs.FillerLaws.{put_back, stays_on}
 use Rattle.effects.specs.Fillers.{Copied, is_filler, lengths_in}
 use Rattle.effects.specs.Leaving.{LeavesStore, StoreStays}
-use Rattle.effects.specs.OtherLaws.{pattern_names}
-use Rattle.effects.specs.References.{reference_of, searched_at, stretch_of}
+use Rattle.effects.specs.OtherLaws.{Unnamed, pattern_names, place_apart}
+use Rattle.effects.specs.ReferenceLaws.{between_same, reference_size, stretch_size}
+use Rattle.effects.specs.References.{searched_at, turned_reference, stretch_of}
 use Rattle.effects.specs.ReplacingLaws.{found_from, found_to, replacing-found}
 use Rattle.effects.specs.Valued.{Between}
 use Rattle.effects.specs.declared.Span.{Span}
@@ -40,15 +40,8 @@ use Rattle.values.specs.Conversion.{longest_string}
 use Rattle.values.specs.Result.{Result, done, with_notes, pure, ◌>>=◌}
 use Rattle.values.specs.declared.Stop.{Stop}
 use Rattle.scan_statement.specs.Scans.{ScanDone, is_split}
-use Rattle.scan_statement.specs.Searches.{SplitFound, PiecesFound, RowsSearchable, scan_of}
+use Rattle.scan_statement.specs.Searches.{SplitFound, PiecesFound, SpanSearchable, scan_of}
 use Rattle.scan_statement.specs.Stages.{LengthsCounted, Findable, Saved, pieces_in, replaced_by, searched_rest, valued_rest}
-
--- a stretch is as long as its ends say
-pub reference_length : (store : List ℕ) (at : Span) → Between store at.place at.from at.to
-    → length (reference_of store at.place at.from at.to) ≡ at.to - at.from
-reference_length store at b =
-    let v = string_of store at.place in
-    length-take-le (at.to - at.from) (drop at.from v) (omega (arith, length-drop at.from v, b.order, b.within))
 
 -- storing makes no notes
 few_storing : (s : ℕ) (v : List ℕ) (m : Memory) → FewNotes 0 (storing s v m)
@@ -60,13 +53,16 @@ stretches : (v : List ℕ) (from to : ℕ) → from ≤ to → take from v ++ (s
 stretches v from to h =
     ap (λ (l : List ℕ). take from v ++ l) (stretch_behind v from (to - from) to (omega arith)) ∙ take-append-drop from v
 
-module _ {table store state : List ℕ} {d : Direction} {at : Span} {pattern : Stretch} {reference values rows names : List ℕ} {notes : ℕ}
-    (q : Findable table store state d at pattern reference values rows names notes) where
+module _ {table store state : List ℕ} {d : Direction} {at : Span} {pattern : Stretch} {values rows names : List ℕ} {notes : ℕ}
+    (q : Findable table store state d at pattern values rows names notes) where
   abbrev vs : List Valued
   vs = q.put.valued
 
   abbrev way : Program.Direction
   way = direction_meaning d
+
+  abbrev reference : List ℕ
+  reference = turned_reference store way at
 
   abbrev searched : Searched
   searched = searched_at at.place at.from at.to (string_of store at.place)
@@ -79,24 +75,12 @@ module _ {table store state : List ℕ} {d : Direction} {at : Span} {pattern : S
 
   -- the stretch that is searched
   searched-length : length reference ≡ at.to - at.from
-  searched-length =
-      ap length q.turned-is ∙ turned-length way (reference_of store at.place at.from at.to) ∙ reference_length store at q.between
+  searched-length = reference_size store way at q.between
 
   searched_short : length reference ≤ 1024
   searched_short = omega (arith, searched-length, q.between.within, good_short store q.ready.strings at.place)
 
-  -- so the rows can be searched for
-  pub findable_searchable : RowsSearchable table store pattern reference values rows
-  findable_searchable =
-      record {
-        bytes = q.bytes;
-        inside = q.fillers.inside;
-        good = q.ready.strings;
-        short = searched_short;
-        lines = q.put.rows_are.good;
-      }
-
-  -- and the lengths of the pieces found be added up
+  -- the lengths of the pieces found can be added up
   pub found_counting : {left answer : List ℕ} → SplitFound true table store left pattern reference answer vs → LengthsCounted answer pattern.count
   found_counting {answer = answer} f =
       let n = f.by in
@@ -109,7 +93,6 @@ module _ {table store state : List ℕ} {d : Direction} {at : Span} {pattern : S
     unfolding ◌>>=◌
     rest-is =
         ap (λ w. w >>= valued_rest table store state d at pattern r) q.put.work
-        ∙ ap (λ (l : List ℕ). with_notes notes (leaving current way searched vs r nulled (scan_of vs l) (scan_of vs l).split)) (sym q.turned-is)
 
     -- no split
     pub missed_scans : {left answer : List ℕ} → StoreStays store left → SplitFound false table store left pattern reference answer vs
@@ -142,11 +125,31 @@ module _ {table store state : List ℕ} {d : Direction} {at : Span} {pattern : S
           rest-is
           ∙ ap (λ o. with_notes notes (leaving current way searched vs r nulled answered o)) n.found
           ∙ ap (λ m. with_notes notes (replacing current way searched n.split r m >>= λ u. pure (record { memory = u; scanned = answered })))
-          (ap (λ (l : List ℕ). naming vs (drop n.split.start l) n.split.lengths nulled) (sym q.turned-is) ∙ n.work (numbers_in state))
+          (n.work (numbers_in state))
 
   -- the string searched is no filler, so it is as it was
   no_filler : is_filler at.place (patterns_meaning table pattern) ≡ false
   no_filler = q.put.clear at.place q.between.known q.fillers
+
+  unnamed : Unnamed at.place vs
+  unnamed = pattern_names current (memory_in store state) at.place (patterns_meaning table pattern) vs notes q.put.work no_filler
+
+  -- and the bytes can be searched for the rows
+  pub findable_searchable : SpanSearchable table store d at pattern values rows names
+  findable_searchable =
+      record {
+        rows_are =
+            record {
+              bytes = q.bytes;
+              inside = q.fillers.inside;
+              good = q.ready.strings;
+              short = searched_short;
+              lines = q.put.rows_are.good;
+            };
+        between = q.between;
+        clear = no_filler;
+        apart = λ i h. place_apart names vs q.put.rows_are.places at.place q.between.known unnamed i (omega (arith, q.put.rows_are.size));
+      }
 
   module _ {named answer : List ℕ} (stays : StoreStays store named) (f : SplitFound true table store named pattern reference answer vs) where
     abbrev n : PiecesFound table store named pattern reference answer vs
@@ -154,16 +157,10 @@ module _ {table store state : List ℕ} {d : Direction} {at : Span} {pattern : S
 
     pub string-same : string_of named at.place ≡ string_of store at.place
     string-same =
-        n.others at.place no_filler
-        (pattern_names current (memory_in store state) at.place (patterns_meaning table pattern) vs notes q.put.work no_filler)
+        n.others at.place no_filler unnamed
 
     pub between_still : Between named at.place at.from at.to
-    between_still =
-        record {
-          known = q.between.known;
-          order = q.between.order;
-          within = subst (λ (v : List ℕ). at.to ≤ length v) (sym string-same) q.between.within;
-        }
+    between_still = between_same q.between string-same
 
     -- the pieces that the answer tells of
     abbrev start : ℕ
@@ -197,11 +194,12 @@ module _ {table store state : List ℕ} {d : Direction} {at : Span} {pattern : S
         let r = length (stretch_of v at.from at.to) in
         let x = n.split.start in
         let y = total (λ l. l) n.split.lengths in
+        let size = stretch_size v at.from at.to q.between.order q.between.within in
         let front : b ≡ at.from = length-take-le at.from v (omega (arith, q.between.order, q.between.within)) in
-        let inside : x + y ≤ r = omega (arith, pieces_inside, n.start, sum_is, reference_length store at q.between) in
+        let inside : x + y ≤ r = omega (arith, pieces_inside, n.start, sum_is, size) in
         replacing-found current way searched n.split (elements_meaning table by) m inside
         ∙ ap (λ (l : List ℕ). put l b r x y) (stretches v at.from at.to q.between.order ∙ sym string-same)
-        ∙ ap₂ (λ (j k : ℕ). put (string_of named at.place) j k x y) front (reference_length store at q.between)
+        ∙ ap₂ (λ (j k : ℕ). put (string_of named at.place) j k x y) front size
         ∙ ap₂ (λ (j k : ℕ). put (string_of named at.place) at.from (at.to - at.from) j k) (sym n.start) sum_is
 
     -- with few notes

@@ -9,7 +9,7 @@ use Rattle.encoding.specs.BufferLaws.{StoreGood}
 use Rattle.store.specs.Clauses.{string_of}
 use Rattle.evaluator.specs.Memory.{MemoryReady, memory_in}
 use Rattle.syntax.specs.Program as Program
-use Rattle.machine.specs.Scanning.{ScanLeft, Valued, leaving, pattern_in, turned, without_fillers}
+use Rattle.machine.specs.Scanning.{ScanLeft, Valued, leaving, pattern_in, without_fillers}
 use Rattle.machine.specs.State.{Memory}
 use Rattle.decoder.specs.Holds.{PatternsHold, ReplacementHolds, searched_place}
 use Rattle.decoder.specs.Meaning.{patterns_meaning}
@@ -18,7 +18,7 @@ use Rattle.encoding.specs.declared.cells.Direction.{Direction}
 use Rattle.decoder.specs.declared.Scan.{Scan}
 use Rattle.decoder.specs.declared.Stretch.{Stretch}
 use Rattle.effects.specs.Fillers.{Copied, lengths_in}
-use Rattle.effects.specs.References.{reference_of, searched_at}
+use Rattle.effects.specs.References.{searched_at, turned_reference}
 use Rattle.effects.specs.Replacing.{stored_turned}
 use Rattle.effects.specs.ReplacingLaws.{found_from, found_to}
 use Rattle.effects.specs.Valued.{Between}
@@ -34,8 +34,7 @@ module _ (table store state : List ℕ) (d : Direction) (at : Span) (pattern : S
   valued_rest vs =
       leaving current (direction_meaning d) (searched_at at.place at.from at.to (string_of store at.place)) vs r
       (without_fillers (patterns_meaning table pattern) (memory_in store state))
-      (scan_of vs (turned (direction_meaning d) (reference_of store at.place at.from at.to)))
-      (scan_of vs (turned (direction_meaning d) (reference_of store at.place at.from at.to))).split
+      (scan_of vs (turned_reference store (direction_meaning d) at)) (scan_of vs (turned_reference store (direction_meaning d) at)).split
 
   -- and what is left of it with this reference
   abbrev pub searched_rest : Result ScanLeft
@@ -47,13 +46,12 @@ pub record LengthsCounted (answer : List ℕ) (count : ℕ) : Type 0 where
   pub short : total (λ l. l) (lengths_in answer count) ≤ 1024
 
 -- a scan whose pattern's values stand in rows
-pub record Findable (table store state : List ℕ) (d : Direction) (at : Span) (pattern : Stretch) (reference values rows names : List ℕ)
+pub record Findable (table store state : List ℕ) (d : Direction) (at : Span) (pattern : Stretch) (values rows names : List ℕ)
     (notes : ℕ) : Type 0 where
   pub bytes : table_size ≤ length table
   pub ready : MemoryReady store state
   pub between : Between store at.place at.from at.to
   pub fillers : PatternsHold table at.place pattern
-  pub turned-is : reference ≡ turned (direction_meaning d) (reference_of store at.place at.from at.to)
   pub put : AllPut table values rows names pattern notes (pattern_in current (memory_in store state) (patterns_meaning table pattern))
 
 -- the fillers of a scan with a replacement are kept

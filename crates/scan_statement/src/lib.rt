@@ -1,5 +1,5 @@
-// SCAN and BACKSCAN on the buffers, in the machine's order of work: reference, pattern values, fillers made null, scan, naming,
-// replacement. The contract is an equation with scanning_in of the crate machine.
+// SCAN and BACKSCAN on the buffers: reference, pattern values, scan, fillers made null, naming, replacement. That is the machine's order of work, but
+// that the fillers are null before its scan, as finding.rt says. The contract is an equation with scanning_in of the crate machine.
 // kept: table, store and state come apart, as effects/valued.rt says; out is a slice of 1,024 bytes, as crate evaluator says
 #![tactic(auto)]
 
@@ -17,7 +17,7 @@ use base::{LONGEST, ROW};
 use decoder::Scan;
 use effects::Span;
 use effects::fillers::copy_fillers;
-use effects::reference::{copy_reference, reference_ends};
+use effects::reference::reference_ends;
 use encoding::STATE_SIZE;
 use evaluator::Memory;
 use finding::find_split;
@@ -50,13 +50,9 @@ fn scan_span(
         (replacement_meaning table.now s.replacement)) }
     ensures kept_stays { StoreGood kept.new }
 {
-    let mut reference = [0u8; LONGEST];
     let mut rows = [0u8; ROWS_SIZE];
     let mut names = [0u8; ROW];
-    let d = s.direction;
     let pattern = s.pattern;
-    let n = at.to - at.from;
-    copy_reference(store, at, d, &mut reference);
     let notes = pattern_rows(
         table,
         Memory { store, state },
@@ -66,16 +62,7 @@ fn scan_span(
         &mut names,
     )?;
     keep_fillers(table, store, kept, s);
-    if !find_split(
-        table,
-        store,
-        pattern,
-        &reference[..n],
-        values,
-        &rows,
-        &names,
-        answer,
-    ) {
+    if !find_split(table, store, s, at, values, &rows, &names, answer) {
         return Ok(Noted {
             value: false,
             notes,

@@ -11,13 +11,15 @@ use Rattle.std.proofs.lemmas.List.{length-replicate, replicate-append-replicate}
 use Rattle.std.proofs.Math.Seq.{length-take-le}
 use Rattle.std.proofs.lemmas.Bool.{lt-leb}
 use Rattle.std.specs.List.{list_all, range_with_len}
+use Rattle.base.specs.ListLaws.{length_stretch}
 use Rattle.base.specs.Lists.{all}
-use Rattle.encoding.specs.BufferLaws.{StoreGood, good_cell, good_short, store_with, number_two, string-count, string_part, with-splice, zeros-behind}
+use Rattle.encoding.specs.BufferLaws.{StoreGood, good_cell, good_short, store_with, cell-image, number_two, string-at, string-count, string_part}
+use Rattle.encoding.specs.BufferLaws.{with-splice, zeros-behind}
 use Rattle.encoding.specs.Buffers.{cell_image, cells_keep, cell_keeps, cell_size, store_keeps, store_size}
 use Rattle.calls.specs.Calls.{start_call}
 use Rattle.encoding.specs.Numerals.{in_bytes, numeral_at}
-use Rattle.encoding.specs.Splices.{splice, splice-before, splice-behind, splice-same-before, splice-same-behind}
-use Rattle.store.specs.Clauses.{string_of, string_replaced, ended_anew, Replacing, Started}
+use Rattle.encoding.specs.Splices.{splice, splice-before, splice-behind, splice-same-before, splice-same-behind, splice_nil, splice_self}
+use Rattle.store.specs.Clauses.{string_of, string_replaced, ended_anew, PuttingPiece, Replacing, Started}
 use Rattle.machine.specs.State.{most_strings}
 use Rattle.values.specs.Conversion.{longest_string}
 
@@ -117,6 +119,31 @@ module _ (store : List ℕ) (g : StoreGood store) (s : ℕ) (h : s < 32) where
       ∙ ap (splice store a) image
       ∙ sym (with-splice store g s v k h)
 
+  -- the two bytes of its length
+  length_there : take 2 (drop (1026 * s) store) ≡ in_bytes 2 (length (string_of store s))
+  unfolding cell_image in_bytes
+  length_there =
+      let a = 1026 * s in
+      sym (take-take 2 1026 (drop a store) (omega arith))
+      ∙ ap (take 2) (sym (cell-image store a (good_cell store g s h) (omega (arith, g.size))) ∙ ap cell_image (sym (string-at store s h)))
+
+  -- v over a string that is as long: it need not be ended anew, since its length stands there and nothing comes free
+  written_over : (v : List ℕ) → length v ≡ length (string_of store s) → splice store (1026 * s + 2) v ≡ store_with store s v
+  unfolding ended_anew in_bytes
+  written_over v e =
+      let a = 1026 * s in
+      let o = length (string_of store s) in
+      let o-fits : o ≤ 1024 = good_short store g s in
+      let none : o - length v ≡ 0 = omega (arith, e) in
+      let left = splice store (a + 2) v in
+      let same : splice left a (in_bytes 2 o) ≡ left =
+      splice-before store a v (in_bytes 2 o) (omega (arith, g.size)) ∙ splice-same-before store a v (in_bytes 2 o) length_there in
+      sym same
+      ∙ ap (λ (n : ℕ). splice left a (in_bytes 2 n)) (sym e)
+      ∙ ap (λ (l : List ℕ). splice l a (in_bytes 2 (length v)))
+      (sym (ap (λ (n : ℕ). splice left (a + 2 + length v) (replicate n 0)) none ∙ splice_nil left (a + 2 + length v)))
+      ∙ written v (omega arith)
+
   -- a part of the string is that part of the store
   part_of : (i : ℕ) → i ≤ length (string_of store s)
       → drop i (string_of store s) ≡ take (length (string_of store s) - i) (drop (1026 * s + 2 + i) store)
@@ -146,6 +173,13 @@ module _ (store : List ℕ) (g : StoreGood store) (s : ℕ) (h : s < 32) where
       ∙ ap (λ (n : ℕ). splice store (start + n) (v ++ drop to old)) (sym front)
       ∙ sym (splice-same-before store start (v ++ drop to old) (take from old) there)
 
+  -- how long it is
+  size_replaced : (from to : ℕ) (v : List ℕ) → Replacing store s from to v
+      → length (string_replaced (string_of store s) from to v) ≡ from + length v + (length (string_of store s) - to)
+  size_replaced from to v r =
+      let old = string_of store s in
+      simp (length-append, length-drop, length-take-le from old (omega (arith, r.order, r.within))) (omega arith)
+
   -- the same with the string ended anew
   pub rewritten : (from to : ℕ) (v : List ℕ) → Replacing store s from to v
       → ended_anew (moved_behind store (1026 * s + 2) from to (length (string_of store s)) v) s (length (string_of store s))
@@ -155,8 +189,42 @@ module _ (store : List ℕ) (g : StoreGood store) (s : ℕ) (h : s < 32) where
   rewritten from to v r =
       let old = string_of store s in
       let new = string_replaced old from to v in
-      let size : length new ≡ from + length v + (length old - to) =
-      simp (length-append, length-drop, length-take-le from old (omega (arith, r.order, r.within))) (omega arith) in
+      let size = size_replaced from to v r in
       ap (λ (l : List ℕ). ended_anew l s (length old) (from + length v + (length old - to))) (moved from to v r)
       ∙ ap (λ (n : ℕ). ended_anew (splice store (1026 * s + 2) new) s (length old) n) (sym size)
       ∙ written new (omega (arith, size, r.fits))
+
+  -- and where the string keeps its length, nothing moves, and only v is written
+  pub overwritten : (from to : ℕ) (v : List ℕ) → Replacing store s from to v
+      → from + length v + (length (string_of store s) - to) ≡ length (string_of store s)
+      → splice store (1026 * s + 2 + from) v ≡ store_with store s (string_replaced (string_of store s) from to v)
+  unfolding moved_behind
+  overwritten from to v r same =
+      let start = 1026 * s + 2 in
+      let old = string_of store s in
+      let o-fits : length old ≤ 1024 = good_short store g s in
+      let behind : start + from + length v ≡ start + to = omega (arith, r.order, r.within, same) in
+      sym (ap (λ (l : List ℕ). splice l (start + from) v)
+      (ap (λ (i : ℕ). splice store i (take (length old - to) (drop (start + to) store))) behind
+      ∙ splice_self store (start + to) (length old - to) (omega (arith, g.size, r.within))))
+      ∙ moved from to v r
+      ∙ written_over (string_replaced old from to v) (size_replaced from to v r ∙ same)
+
+-- a piece of a string over a string, and that one ended anew
+module _ (store : List ℕ) (s of from n : ℕ) (p : PuttingPiece store s of from n) where
+  pub piece_fits : from + n ≤ 1024
+  piece_fits = omega (arith, p.within, good_short store p.good of)
+
+  pub piece_written : ended_anew (splice store (1026 * s + 2) (take n (drop (1026 * of + 2 + from) store))) s (length (string_of store s)) n
+      ≡ store_with store s (take n (drop from (string_of store of)))
+  piece_written =
+      let start = 1026 * s + 2 in
+      let piece = take n (drop (1026 * of + 2 + from) store) in
+      let inside : 1026 * of + 2 + from + n ≤ length store = omega (arith, piece_fits, p.source, p.good.size) in
+      let size : length piece ≡ n = length_stretch store (1026 * of + 2 + from) n inside in
+      let part : take n (drop from (string_of store of)) ≡ piece =
+      ap (take n) (part_of store p.good of p.source from (omega (arith, p.within)))
+      ∙ take-take n (length (string_of store of) - from) (drop (1026 * of + 2 + from) store) (omega (arith, p.within)) in
+      ap (λ (k : ℕ). ended_anew (splice store start piece) s (length (string_of store s)) k) (sym size)
+      ∙ written store p.good s p.known piece (omega (arith, size, piece_fits))
+      ∙ ap (store_with store s) (sym part)

@@ -32,6 +32,13 @@ pub record Replacing (store : List ℕ) (place from to : ℕ) (v : List ℕ) : T
   pub within : to ≤ length (string_of store place)
   pub fits : from + length v + (length (string_of store place) - to) ≤ 1024
 
+-- a string to be set to a piece of a string
+pub record PuttingPiece (store : List ℕ) (place of from n : ℕ) : Type 0 where
+  pub good : StoreGood store
+  pub known : place < 32
+  pub source : of < 32
+  pub within : from + n ≤ length (string_of store of)
+
 -- the number that the starting call answers: 14 where the store was not started
 abbrev pub started_number : Option Unit → ℕ
 started_number None = 14

@@ -1,30 +1,45 @@
 -- Laws of spans: a stretch of bytes put anew, a list turned round, zeros seen, where a record ends.
 -- Assumes nothing.
-use Rattle.std.specs.Prelude.{true, false, ◌&&◌, ◌≡◌, refl, ℕ, zero, suc, ◌+◌, ◌-◌, ◌≤◌, eqb, length, take, drop}
+use Rattle.std.specs.Prelude.{true, false, ◌&&◌, ◌≡◌, refl, ℕ, zero, suc, ◌+◌, ◌-◌, ◌<◌, ◌≤◌, eqb, get_or, length, reverse, set, take, drop}
 use Rattle.std.proofs.Math.Bool.{and_assoc, and-true}
 use mathlib.Core.List.{List, [], ◌∷◌, ◌++◌}
-use Rattle.std.proofs.Common.{sym, ap, ◌∙◌, zero-add, arith, ne_eqb}
+use Rattle.std.proofs.Common.{sym, ap, ◌∙◌, add-one, arith, ne_eqb}
+use Rattle.std.proofs.lemmas.List.{get_or-reverse, length-reverse}
 use Rattle.std.specs.List.{fold}
 use Rattle.std.specs.Int.Bits.{bit_or, or_zero_l, or_add_and}
 use Rattle.std.proofs.lemmas.Nat.{and_le_r}
-use Rattle.std.proofs.Math.Seq.{drop-drop}
+use Rattle.std.proofs.Math.Seq.{drop-drop, length-take-le, take-suc}
 use borrow.Rule.Slice.PartMut.{put_mid}
 use Rattle.base.specs.Lists.{all}
-use Rattle.encoding.specs.Splices.{splice}
+use Rattle.encoding.specs.Splices.{splice, length-splice, set-splice, splice-behind}
 use Rattle.cards.specs.Bytes.{newline}
 use Rattle.machine.specs.Step.{record_length}
 use Rattle.search.specs.NextLaws.{next-until, until_within}
 use Rattle.search.specs.Passing.{NextByte, until}
 
--- a part of a list put anew is a splice, and so is a front put before what lies behind
+-- a part of a list put anew is a splice
 pub put_mid-splice : (d : List ℕ) (at k : ℕ) (v : List ℕ) → k ≡ length v → put_mid at k d v ≡ splice d at v
 unfolding splice
 put_mid-splice d at k v e =
     ap (λ (l : List ℕ). take at d ++ (v ++ l)) (drop-drop k at d ∙ ap (λ (n : ℕ). drop (at + n) d) e)
 
-pub front-splice : (d v : List ℕ) (n : ℕ) → n ≡ length v → v ++ drop n d ≡ splice d 0 v
-unfolding splice
-front-splice d v n e = ap (λ (m : ℕ). v ++ drop m d) (e ∙ sym (zero-add (length v)))
+-- one more byte of a list turned round is put
+pub turned_put : (d s : List ℕ) (i : ℕ) → i < length s → length s ≤ length d
+    → set (splice d 0 (take i (reverse s))) i (get_or s (length s - 1 - i) 0) ≡ splice d 0 (take (i + 1) (reverse s))
+turned_put d s i h k =
+    let r = reverse s in
+    let v = take i r in
+    let b = get_or s (length s - 1 - i) 0 in
+    let size : length v ≡ i = length-take-le i r (omega (arith, length-reverse s)) in
+    let place : i ≡ 0 + length v = omega arith in
+    let next : v ++ (b ∷ []) ≡ take (i + 1) r =
+    ap (λ (x : ℕ). v ++ (x ∷ [])) (sym (get_or-reverse s i 0 h))
+    ∙ sym (take-suc r i 0 (omega (arith, length-reverse s)))
+    ∙ ap (λ (j : ℕ). take j r) (sym (add-one i)) in
+    set-splice (splice d 0 v) i b (omega (arith, length-splice d 0 v (omega arith)))
+    ∙ ap (λ (j : ℕ). splice (splice d 0 v) j (b ∷ [])) place
+    ∙ splice-behind d 0 v (b ∷ []) (omega arith)
+    ∙ ap (splice d 0) next
 
 -- two bytes together are zero where each is
 or_test : (a b : ℕ) → eqb (bit_or a b) 0 ≡ (eqb a 0 && eqb b 0)

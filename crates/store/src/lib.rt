@@ -1,4 +1,5 @@
-// The store's cells: whether they keep their rules, where their strings lie, and how a string is set or a stretch of it replaced.
+// The store's cells: whether they keep their rules, where their strings lie, and how a string is set, to new bytes or to a piece of another, or a
+// stretch of it replaced.
 // Each contract is an equation with the definitions of the crates encoding and calls.
 // kept: the store is the caller's bytes, by the C interface; so these are functions on it and not methods of a struct, and ask for StoreGood
 // kept: a place is a number under 32 by a clause: a type for it would be made of a byte of the table and opened again at each use
@@ -6,12 +7,13 @@
 
 pub mod spans;
 
-ghost use Rattle.std.specs.Prelude.{◌++◌, ◌≡◌, ◌+◌, ◌*◌, ◌-◌, ◌<◌, ◌≤◌, length, drop, replicate};
+ghost use Rattle.std.specs.Prelude.{◌++◌, ◌≡◌, ◌+◌, ◌*◌, ◌-◌, ◌<◌, ◌≤◌, length, take, drop, replicate};
 ghost use Rattle.encoding.specs.BufferLaws.{StoreGood, store_with};
 ghost use Rattle.encoding.specs.Buffers.{store_size, cell_keeps, store_keeps};
 ghost use Rattle.encoding.specs.Numerals.{in_bytes};
 ghost use Rattle.encoding.specs.Splices.{splice};
-ghost use Rattle.store.specs.Clauses.{string_of, string_replaced, ended_anew, Putting, Replacing, Started, started_number};
+ghost use Rattle.store.specs.Clauses.{string_of, string_replaced, ended_anew, Putting, PuttingPiece, Replacing, Started};
+ghost use Rattle.store.specs.Clauses.{started_number};
 
 use base::{LONGEST, STRINGS};
 use encoding::{CELL_SIZE, STORE_SIZE};
@@ -99,7 +101,8 @@ pub fn put(store: &mut [u8], place: usize, v: &[u8])
     set_end(store, place, old, v.len());
 }
 
-// Replaces the bytes from..to of the string with this place. Only bytes behind them move, and none if v is as long as they are.
+// Replaces the bytes from..to of the string with this place. Where its length stays, only v is written; else the bytes behind move too, and the
+// string is ended anew.
 pub fn replace(store: &mut [u8], place: usize, from: usize, to: usize, v: &[u8])
     requires { Replacing store.old place from to v.now }
     ensures { store.new
@@ -108,9 +111,24 @@ pub fn replace(store: &mut [u8], place: usize, from: usize, to: usize, v: &[u8])
     let old = string_length(store, place);
     let start = string_start(place);
     let at = start + from;
+    let new = from + v.len() + (old - to);
+    if new == old {
+        spans::write(store, at, v);
+        return;
+    }
     spans::slide(store, start + to, at + v.len(), old - to);
     spans::write(store, at, v);
-    set_end(store, place, old, from + v.len() + (old - to));
+    set_end(store, place, old, new);
+}
+
+// Sets the string with this place to a piece of the one with place `of`: its n bytes from a place on.
+pub fn put_piece(store: &mut [u8], place: usize, of: usize, from: usize, n: usize)
+    requires { PuttingPiece store.old place of from n }
+    ensures { store.new ≡ store_with store.old place (take n (drop from (string_of store.old of))) }
+{
+    let old = string_length(store, place);
+    spans::slide(store, string_start(of) + from, string_start(place), n);
+    set_end(store, place, old, n);
 }
 
 // Zeroes the store's cells.

@@ -1,9 +1,7 @@
 -- `scan_span` meets its contract: the pattern's values stop it, there is no split, the replacement takes the place of the pieces, or it
-use mathlib.Core.List.{List}
 use mathlib.Core.Path.{◌≡◌, refl, sym, subst}
-use Prim.Native.Nat.{ℕ, ◌-◌}
+use Prim.Native.Nat.{ℕ}
 use native.Mathlib.Omega.{arith}
-use lib.ListN.{length, take}
 use Rattle.std.specs.Prelude.{Ok}
 use Rattle.std.proofs.lemmas.Result.{err_from_is_err_and}
 use lib.Seq.{length-take-le}
@@ -18,22 +16,12 @@ use Rattle.effects.specs.Leaving.{Completion, LeavesStore}
 use Rattle.values.specs.ResultLaws.{stopped}
 use Rattle.values.specs.Stops.{stop_number}
 use Rattle.scan_statement.specs.Patterns.{AllBy}
-use Rattle.scan_statement.specs.ReferenceLaws.{copied_reference, reference_fits}
 use Rattle.scan_statement.specs.SearchLaws.{finds_as}
 use Rattle.scan_statement.specs.StageLaws.{between_still, few_stored, findable_searchable, found_counting, missed_scans, pieces_inside}
 use Rattle.scan_statement.specs.StageLaws.{replaced_scans, stopped_scans}
 use Rattle.scan_statement.specs.Stages.{Findable, replaced_pieces, valued_rest}
 use Rattle.scan_statement.proofs.scan_span.Goals.{After-pattern_rows, After-replace_pieces}
 use Rattle.scan_statement.proofs.scan_span.Goals as goal
-
-pub overflow_sub-n : goal.overflow_sub-n
-overflow_sub-n c = c.requires.referred.between.order
-
-pub copy_reference-requires : goal.copy_reference-requires
-copy_reference-requires c = record {
-  store_good = c.requires.referred.scannable.ready.strings;
-  between = c.requires.referred.between;
-}
 
 pub pattern_rows-requires : goal.pattern_rows-requires
 pattern_rows-requires c =
@@ -42,16 +30,6 @@ pattern_rows-requires c =
       searched = _;
       pattern = c.requires.referred.scannable.pattern;
     }
-
--- the reference stands at the front of its buffer
-abbrev copy : After-pattern_rows → List ℕ
-copy c = c.copy_reference.new.out
-
-copy-prefix : (c : After-pattern_rows) → (let at = c.args.at in length (take (at.to - at.from) (copy c)) ≡ at.to - at.from)
-copy-prefix c =
-    let a = c.args in
-    let fits = reference_fits a.store.now a.at c.requires.referred.scannable.ready.strings c.requires.referred.between in
-    length-take-le (a.at.to - a.at.from) (copy c) (omega (arith, fits))
 
 -- the pattern's values stand in rows, or stop the scan
 all-by : (c : After-pattern_rows) {r : Completion} → c.pattern_rows.result ≡ r
@@ -69,8 +47,7 @@ all-by c e =
 findable : (c : After-pattern_rows) {notes : ℕ} → c.pattern_rows.result ≡ Ok notes
     → (let a = c.args in
     let put = c.pattern_rows.new in
-    Findable a.table.now a.store.now a.state.now a.s.direction a.at a.s.pattern (take (a.at.to - a.at.from) (copy c))
-    put.values put.rows put.names notes)
+    Findable a.table.now a.store.now a.state.now a.s.direction a.at a.s.pattern put.values put.rows put.names notes)
 findable c e =
     let a = c.args in
     let r = c.requires.referred in
@@ -79,9 +56,6 @@ findable c e =
       ready = r.scannable.ready;
       between = r.between;
       fillers = subst (λ (k : ℕ). PatternsHold a.table.now k a.s.pattern) (sym r.names) r.scannable.pattern;
-      turned-is =
-          copied_reference a.store.now a.at r.scannable.ready.strings r.between a.s.direction _ (copy c)
-          c.copy_reference.ensures;
       put = all-by c e;
     }
 
@@ -94,20 +68,11 @@ keep_fillers-requires c =
       good = c.requires.kept_good;
     }
 
-pub slice_bounds-reference-end : goal.slice_bounds-reference-end
-slice_bounds-reference-end c =
-    let s = c.requires.referred in
-    let fits = reference_fits c.args.store.now c.args.at s.scannable.ready.strings s.between in
-    omega (arith, fits)
-
 pub slice_bounds-find_split-end : goal.slice_bounds-find_split-end
-slice_bounds-find_split-end c = sym (copy-prefix (goal.at.slice_bounds-find_split-end c).After-pattern_rows)
+slice_bounds-find_split-end c = sym c.pattern_rows.array_long
 
 pub slice_bounds-find_split-end-2 : goal.slice_bounds-find_split-end-2
-slice_bounds-find_split-end-2 c = sym c.pattern_rows.array_long
-
-pub slice_bounds-find_split-end-3 : goal.slice_bounds-find_split-end-3
-slice_bounds-find_split-end-3 c = sym c.pattern_rows.array_long2
+slice_bounds-find_split-end-2 c = sym c.pattern_rows.array_long2
 
 pub find_split-requires : goal.find_split-requires
 find_split-requires c = findable_searchable (findable (goal.at.find_split-requires c).After-pattern_rows c.in_ok-notes.was)

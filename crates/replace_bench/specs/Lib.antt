@@ -1,0 +1,3 @@
+-- What the benchmark's replacements leave of a store (Replacements), with laws (ReplacementLaws).
+pub mod ReplacementLaws
+pub mod Replacements
