@@ -1,8 +1,8 @@
 /* Steps, lines and trials in a second, of one thread and of two on one table. A round begins with all threads at once, each on a core of its
    own. Each makes the same steps on its own store, state and output; the round ends with the last of them. A figure is the best of many rounds.
    The arguments are LOTS and an input for it, a deck that nearly fills its table, one that only counts, one that scans and replaces, one whose
-   scans make as many trials as can be, and one whose scans compare as many bytes as can be. Printed are tables in Markdown: these counts, and
-   what follows from one thread's for a step, a trial and a line. */
+   scans make nearly as many trials as can be, and one whose scans compare as many bytes as can be. Printed are tables in Markdown: these counts,
+   and what follows from one thread's for a step, a trial and a line. */
 #define _GNU_SOURCE
 #include "figures.h"
 #include "strigol.h"
@@ -180,7 +180,7 @@ int main(int argc, char **argv)
                              full = {"a deck that nearly fills its table, by `strigol_step`", 100, 1, 1, 0},
                              counts = {"a deck that counts, by `strigol_run`", 10000, 0, 0, 0},
                              swaps = {"a deck that scans and replaces, by `strigol_run`", 10000, 0, 0, 0},
-                             tries = {"scans with as many trials as can be, by `strigol_run`", 40, 0, 0, 10},
+                             tries = {"scans with nearly as many trials as can be, by `strigol_run`", 40, 0, 0, 10},
                              compares = {"scans that compare as many bytes as can be, by `strigol_run`", 10, 0, 0, 10};
     struct rate lots, stepped, filled, counting, swapping, trying, comparing;
     if (argc != 8) {
@@ -199,7 +199,7 @@ int main(int argc, char **argv)
     printf("\n| what | takes |\n|---|---|\n");
     show_time("a step in a run, in a deck that counts", 1, counting.steps);
     show_time("a step in a run, in a deck that scans and replaces; one step in four scans", 1, swapping.steps);
-    show_time("a trial, in scans with as many as can be", 1, trying.trials);
+    show_time("a trial, in scans with nearly as many as can be", 1, trying.trials);
     show_time("a step by `strigol_step`, with LOTS", 1, stepped.steps);
     show_time("a step by `strigol_step`, with a deck that nearly fills its table", 1, filled.steps);
     printf("| a line of LOTS | %.1f steps, %.0f trials |\n", lots.steps / lots.lines, lots.trials / lots.lines);

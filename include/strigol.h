@@ -172,7 +172,8 @@ enum strigol_status { STRIGOL_RUNNING = 0, STRIGOL_ENDED = 1, STRIGOL_HALTED = 2
 enum strigol_answer {
     STRIGOL_SPLIT = 0,      /* 1 with a split, 0 without */
     STRIGOL_START = 1,      /* the split's start in the reference; of a BACKSCAN, in the reference turned round */
-    STRIGOL_TRIALS = 2,     /* trials made, also by a scan that failed */
+    STRIGOL_TRIALS = 2,     /* trials made, also by a scan that failed: at most m * (n + 1), for m elements that aren't free fillers and
+                               n bytes searched */
     STRIGOL_NOTES = 3,      /* the step's notes, such as one where READ cut its record; 0 in the scan call */
     STRIGOL_LENGTHS_AT = 4  /* 20 numbers: the length of each element's piece, then zeros */
 };

@@ -37,6 +37,11 @@ static uint32_t right_step(struct lent *l)
     return oracle_step_call(COPY(l, TABLE), COPY(l, STORE), COPIED_64(l, STATE), COPY(l, INPUT), COPY(l, OUTPUT), COPIED_32(l, ANSWER));
 }
 
+static uint32_t most_in_step(struct lent *l)
+{
+    return oracle_most_in_step(l->b[TABLE].at, l->b[STORE].at, NUMBERS_64(l, STATE));
+}
+
 static uint32_t call_run(struct lent *l)
 {
     return strigol_run(LENT(l, TABLE), LENT(l, STORE), NUMBERS_64(l, STATE), LENT(l, INPUT), LENT(l, OUTPUT), l->count,
@@ -57,6 +62,11 @@ static uint32_t call_scan(struct lent *l)
 static uint32_t right_scan(struct lent *l)
 {
     return oracle_scan_call(COPY(l, REFERENCE), COPY(l, VALUES), COPY(l, ELEMENTS), COPIED_32(l, ANSWER));
+}
+
+static uint32_t most_in_scan(struct lent *l)
+{
+    return oracle_most_in_scan(l->b[REFERENCE].length, LENT(l, ELEMENTS));
 }
 
 static uint32_t call_open(struct lent *l)
@@ -105,15 +115,15 @@ static uint32_t right_report(struct lent *l)
 #define STEP_BUFFERS (BIT(TABLE) | BIT(STORE) | BIT(STATE) | BIT(INPUT) | BIT(OUTPUT))
 
 struct call_beside calls[CALLS] = {
-    {"strigol_read", call_read, right_read, FROM_TO(0, 12), BIT(DECK) | BIT(TABLE) | BIT(CARD), {0}},
-    {"strigol_start", call_start, right_start, BIT(0) | BIT(14), BIT(STORE) | BIT(STATE), {0}},
-    {"strigol_step", call_step, right_step, STEP_NUMBERS, STEP_BUFFERS | BIT(ANSWER), {0}},
-    {"strigol_run", call_run, right_run, STEP_NUMBERS, STEP_BUFFERS | BIT(RESULT), {0}},
-    {"strigol_scan", call_scan, right_scan, BIT(0) | FROM_TO(22, 24), BIT(REFERENCE) | BIT(VALUES) | BIT(ELEMENTS) | BIT(ANSWER), {0}},
-    {"strigol_register_open", call_open, right_open, BIT(0) | BIT(14) | BIT(29), BIT(REGISTER) | BIT(HOUSE), {0}},
-    {"strigol_register_offer", call_offer, right_offer, BIT(0) | BIT(14) | FROM_TO(25, 27), BIT(REGISTER) | BIT(OFFERED), {0}},
-    {"strigol_register_line", call_hand_out, right_hand_out, BIT(0) | BIT(14), BIT(REGISTER) | BIT(LINE) | BIT(LENGTH), {0}},
-    {"strigol_register_report", call_report, right_report, BIT(0) | BIT(14) | BIT(21), BIT(REGISTER) | BIT(OUTPUT) | BIT(LENGTH), {0}},
+    {"strigol_read", call_read, right_read, NULL, FROM_TO(0, 12), BIT(DECK) | BIT(TABLE) | BIT(CARD), {0}},
+    {"strigol_start", call_start, right_start, NULL, BIT(0) | BIT(14), BIT(STORE) | BIT(STATE), {0}},
+    {"strigol_step", call_step, right_step, most_in_step, STEP_NUMBERS, STEP_BUFFERS | BIT(ANSWER), {0}},
+    {"strigol_run", call_run, right_run, NULL, STEP_NUMBERS, STEP_BUFFERS | BIT(RESULT), {0}},
+    {"strigol_scan", call_scan, right_scan, most_in_scan, BIT(0) | FROM_TO(22, 24), BIT(REFERENCE) | BIT(VALUES) | BIT(ELEMENTS) | BIT(ANSWER), {0}},
+    {"strigol_register_open", call_open, right_open, NULL, BIT(0) | BIT(14) | BIT(29), BIT(REGISTER) | BIT(HOUSE), {0}},
+    {"strigol_register_offer", call_offer, right_offer, NULL, BIT(0) | BIT(14) | FROM_TO(25, 27), BIT(REGISTER) | BIT(OFFERED), {0}},
+    {"strigol_register_line", call_hand_out, right_hand_out, NULL, BIT(0) | BIT(14), BIT(REGISTER) | BIT(LINE) | BIT(LENGTH), {0}},
+    {"strigol_register_report", call_report, right_report, NULL, BIT(0) | BIT(14) | BIT(21), BIT(REGISTER) | BIT(OUTPUT) | BIT(LENGTH), {0}},
 };
 
 void begin_test(const char *name, struct lent *l)
@@ -138,17 +148,30 @@ uint32_t make(struct lent *l, enum call call)
     return number;
 }
 
+uint32_t trials_met;
+
+/* Whether the trials answered are at most so many. */
+static void trials_within(const struct lent *l, uint32_t most)
+{
+    uint32_t trials = NUMBERS_32(l, ANSWER)[STRIGOL_TRIALS];
+    if (trials > most) fail("%u trials, more than %u", trials, most);
+    if (trials > trials_met) trials_met = trials;
+}
+
+/* The oracle goes first, on the copies: what is lent is then still as it was. */
 uint32_t make_right(struct lent *l, enum call call)
 {
-    uint32_t number, right;
+    uint32_t number, right, most = 0;
     for (int i = 0; i < BUFFERS; i++)
         if (calls[call].buffers >> i & 1) keep(&l->b[i]);
-    number = make(l, call);
     right = calls[call].right(l);
+    if (right == 0 && calls[call].most != NULL) most = calls[call].most(l);
+    number = make(l, call);
     calls[call].met[right]++;
     if (number != right) fail("number %u, not %u", number, right);
     for (int i = 0; i < BUFFERS; i++)
         if ((calls[call].buffers >> i & 1) && !same(l, (enum which)i)) break;
+    if (calls[call].most != NULL) trials_within(l, most);
     return number;
 }
 
@@ -238,7 +261,7 @@ static int step_right(struct lent *l, const struct oracle_program *p, struct mac
 {
     static const enum which left[] = {ANSWER, STATE, OUTPUT, STORE};
     struct answer a;
-    uint32_t number;
+    uint32_t number, most = oracle_most_trials(p, m);
     oracle_step(p, m, l->b[INPUT].at, l->b[INPUT].length, kept(&l->b[OUTPUT]), l->b[OUTPUT].length, &a);
     oracle_answer(&a, COPIED_32(l, ANSWER));
     oracle_state(m, COPIED_64(l, STATE));
@@ -251,6 +274,7 @@ static int step_right(struct lent *l, const struct oracle_program *p, struct mac
     }
     for (size_t i = 0; i < sizeof left / sizeof left[0]; i++)
         if (!same(l, left[i])) return 0;
+    trials_within(l, number == 0 ? most : 0);
     return 1;
 }
 

@@ -16,12 +16,12 @@
 #define COPIED_64(l, which) ((uint64_t *)(void *)kept(&(l)->b[which]))
 #define COPIED_32(l, which) ((uint32_t *)(void *)kept(&(l)->b[which]))
 
-/* A call, by what is lent: the numbers that documents 01 and 02 let it give, as bits, the buffers lent to it, as bits, and how often each number was
-   right so far. */
+/* A call, by what is lent: of one that answers trials, the most that it may make where it gives 0 (W8.2); the numbers that documents 01 and 02 let
+   it give, as bits, the buffers lent to it, as bits, and how often each number was right so far. */
 enum call { READ, START, STEP, RUN, SCAN, OPEN, OFFER, HAND_OUT, REPORT, CALLS };
 struct call_beside {
     const char *name;
-    uint32_t (*call)(struct lent *), (*right)(struct lent *);
+    uint32_t (*call)(struct lent *), (*right)(struct lent *), (*most)(struct lent *);
     uint32_t numbers, buffers;
     long met[STRIGOL_LAST_NUMBER + 1];
 };
@@ -36,8 +36,12 @@ void begin_seed(struct draws *d, uint64_t seed);
 /* Makes a call and looks at its number alone. */
 uint32_t make(struct lent *l, enum call call);
 
-/* Makes a call and compares its number and all bytes between the fences with what the oracle gives and leaves. */
+/* Makes a call and compares its number and all bytes between the fences with what the oracle gives and leaves. The trials that it answers are no
+   more than W8.2 allows, and none where it gives another number than 0. */
 uint32_t make_right(struct lent *l, enum call call);
+
+/* The most trials that a call answered so far. */
+extern uint32_t trials_met;
 
 /* How often the call got each number; if all are wanted, one that was never met is a failure. */
 void show_met(enum call call, int all);
@@ -70,8 +74,8 @@ void lay_line(struct lent *l, enum side side, const struct line *line);
 /* Lays the bytes of a buffer again, in another length: the bytes that fit, and others behind them. */
 void lay_again(struct buffer *b, enum side side, size_t length);
 
-/* A list of at most so many steps from a fresh start, beside the oracle's own machine: number, answer, state, output and store after each.
-   Behind its end one step more is turned down by 16. Answers how many were carried out. */
+/* A list of at most so many steps from a fresh start, beside the oracle's own machine: number, answer, state, output and store after each, and its
+   trials as above. Behind its end one step more is turned down by 16. Answers how many were carried out. */
 long list_right(struct lent *l, const struct oracle_program *p, long most);
 
 #endif

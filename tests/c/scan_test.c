@@ -1,6 +1,7 @@
 /* Tries the scan call of the static library against the oracle: number and 24 numbers answered, on document 01's trade lines P1 to P8, on 22,
    23 and 24 at their edges, on a pattern of 20 elements, and on random references and patterns, rows out of range and random rows among them.
-   The first three also against document 01. Nothing else lent may be written. A first argument is the only seed to try. */
+   The first three also against document 01. No scan makes more trials than document 02 lets it (W8.2), and scans of many sizes make as many. Nothing
+   else lent may be written. A first argument is the only seed to try. */
 #include "beside.h"
 
 #include <stdio.h>
@@ -20,7 +21,7 @@ static void show(const char *name, const uint8_t *bytes, size_t n)
 
 static void expect(int holds, const char *what)
 {
-    if (!holds) fail("not the %s of document 01", what);
+    if (!holds) fail("not the %s of the documents", what);
 }
 
 /* Makes the scan by the call and by the oracle; shows the first that differ. */
@@ -60,7 +61,7 @@ static void put_pattern(struct scan *s, const char *pattern)
     }
 }
 
-/* A line with its answer by hand, and its trials where document 01 says how many. */
+/* A line with its answer by hand, and its trials where a document says how many. */
 static void line(const char *reference, const char *pattern, uint32_t found, uint32_t start, const char *lengths, int trials)
 {
     static struct scan s;
@@ -91,6 +92,57 @@ static void trade_lines(void)
     line("AAB", "\"AB\"", 1, 1, "2", 2);
     line("AB", "\"B\"\"C\"", 0, 0, "", 3);
     line("A,,B,,,,C,,,,,D", "()\",\"()\",\"()\",\"()\",\"()\",\"()\",\"()\",\"()\",\"()\",\"()\",\"", 1, 0, "11011101010111010101", -1);
+}
+
+/* Patterns that make as many trials as W8.2 lets a scan make: free fillers in front and behind, and between them m other elements, the last one "B",
+   the others without bytes, of which so many are fixed fillers. In n bytes A each of the m is tested at each of n + 1 places. */
+struct shape { const char *name; int front, behind, fixed; };
+
+static void put_shape(struct scan *s, const struct shape *shape, int m)
+{
+    s->values_len = 1;
+    s->values[0] = 'B';
+    s->rows_len = 0;
+    for (int i = 0; i < shape->front; i++) put_element(s, STRIGOL_FREE, 0, 0);
+    for (int i = 1; i < m; i++) put_element(s, i <= shape->fixed ? STRIGOL_FIXED : STRIGOL_STRING, 0, 0);
+    put_element(s, STRIGOL_STRING, 0, 1);
+    for (int i = 0; i < shape->behind; i++) put_element(s, STRIGOL_FREE, 0, 0);
+}
+
+static void try_shape(const struct shape *shape, int m, size_t n)
+{
+    static struct scan s;
+    uint32_t trials, most;
+    doing.part = shape->name;
+    doing.seed = n;
+    s.reference_len = n;
+    memset(s.reference, 'A', n);
+    put_shape(&s, shape, m);
+    try_scan(&s, (enum side)(m % SIDES));
+    trials = NUMBERS_32(&lent, ANSWER)[STRIGOL_TRIALS];
+    most = oracle_most_in_scan(s.reference_len, s.rows, s.rows_len);
+    if (trials != (uint32_t)m * (n + 1) || most != trials) fail("%u trials of at most %u, not %d for each of %zu places", trials, most, m, n + 1);
+}
+
+/* A few lines that make m × (n + 1) trials or, where the last byte fits, m × n; all shapes in many sizes. */
+static void costly_scans(void)
+{
+    static const struct shape shapes[] = {
+        {"null strings", 0, 0, 0},
+        {"null strings, free fillers in front", 2, 0, 0},
+        {"null strings, a free filler behind", 0, 1, 0},
+        {"fixed fillers of 0 bytes", 0, 0, STRIGOL_ELEMENTS_MOST},
+        {"both, free fillers in front and behind", 1, 2, 3},
+    };
+    static const size_t lengths[] = {0, 1, 2, 3, 7, 8, 15, 16, 17, 31, 32, 33, 63, 64, 65, 127, 128, 255, 256, 257, 1000, 1023, 1024};
+    line("AAA", "\"\"\"B\"", 0, 0, "", 8);
+    line("AAA", "()\"\"(0)\"B\"()", 0, 0, "", 12);
+    line("AAB", "\"\"\"B\"", 1, 2, "01", 6);
+    line("", "\"\"(0)\"\"()", 1, 0, "0000", 3);
+    for (size_t i = 0; i < sizeof shapes / sizeof shapes[0]; i++)
+        for (int m = 1; m <= STRIGOL_ELEMENTS_MOST - shapes[i].front - shapes[i].behind; m++)
+            for (size_t k = 0; k < sizeof lengths / sizeof lengths[0]; k++) try_shape(&shapes[i], m, lengths[k]);
+    if (trials_met != 20500) fail("at most %u trials, not 20,500", trials_met);
 }
 
 /* 22, 23 and 24 at their edges: one row, and bytes of zero as reference, values and further rows. */
@@ -150,10 +202,11 @@ int main(int argc, char **argv)
     begin_test("scan test", &lent);
     if (argc == 1) {
         trade_lines();
+        costly_scans();
         refusals();
     }
     for (int i = 1; i <= tried; i++) try_random(argc > 1 ? strtoull(argv[1], NULL, 10) : (uint64_t)i);
     show_met(SCAN, argc == 1);
-    printf("scan test: %d random scans, %d splits found, %d failures\n", tried, found, failures);
+    printf("scan test: %d random scans, %d splits found, %u trials at most, %d failures\n", tried, found, trials_met, failures);
     return failures != 0;
 }

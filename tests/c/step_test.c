@@ -1,8 +1,9 @@
 /* Tries the starting, stepping and running calls of the static library against the oracle. Lists of steps from a fresh start, where the oracle
    goes its own way through strings and numbers: number, 24 numbers answered, store, state and output after every step. Then the same decks by
    the running call. Decks are random ones, those at the edges, and all of tests/vectors, read by the reading call. Then tables and stores of
-   sizes about the edge, states in and out of range, tables at the edges of the rules, and every byte of one table changed. Nothing else lent
-   may be written. A first argument is the only seed to try. */
+   sizes about the edge, states in and out of range, tables at the edges of the rules, and every byte of one table changed. No step answers more
+   trials than document 02 lets it (W8.2), and scans in decks make as many. Nothing else lent may be written. A first argument is the only seed to
+   try. */
 #include "beside.h"
 
 #include <stdio.h>
@@ -125,6 +126,72 @@ static void try_edges(void)
         doing.part = deck.name;
         try_deck(&p, NULL, 0, MOST_OUTPUT);
     }
+}
+
+/* Decks with one scan: how many trials it makes, and how many W8.2 lets it make, which is m × (n + 1) for m elements that aren't free fillers and a
+   reference of n bytes, 0 if it is stopped. X has 1,024 bytes, the first 1 and the last 2; L, F and G are null, K is 0, N is -1, M is 100. */
+#define X_OF_1024 "PROGRAM P|NUMBER N,M,K|N=-1|M=100|X=\"1\",STRING(1022,K),\"2\"|"
+#define L18 "L,L,L,L,L,L,L,L,L,L,L,L,L,L,L,L,L,L"
+#define NEGATIVE_6 "(F$N),(G$N),(F$N),(G$N),(F$N),(G$N)"
+static const struct { const char *name, *scan; uint32_t trials, most; } costs[] = {
+    {"19 null strings", "SCAN X[L," L18 ",\"3\"]", 20500, 20500},
+    {"19 null strings, from behind", "BACKSCAN X[L," L18 ",\"3\"]", 20500, 20500},
+    {"a negative fixed filler", "SCAN X[(F$N)," L18 ",\"3\"]", 20500, 20500},
+    {"a negative fixed filler, from behind", "BACKSCAN X[(F$N)," L18 ",\"3\"]=\"4\"", 20500, 20500},
+    {"19 negative fixed fillers",
+     "!        +SCAN X[(F$N)," NEGATIVE_6 ",|!        +" NEGATIVE_6 ",|!         " NEGATIVE_6 ",\"3\"]", 20500, 20500},
+    {"a fixed filler of 0 bytes", "SCAN X[(F$K)," L18 ",\"3\"]", 20500, 20500},
+    {"a reference of 100 bytes", "SCAN X$100[L," L18 ",\"2\"]", 2020, 2020},
+    {"a reference of 100 bytes, from behind", "BACKSCAN X$100[L," L18 ",\"1\"]", 2020, 2020},
+    {"a reference of M bytes", "SCAN X$M[(F$N)," L18 ",\"2\"]=\"3\"", 2020, 2020},
+    {"a reference of M bytes, from behind", "BACKSCAN X$M[(F$N)," L18 ",\"1\"]=", 2020, 2020},
+    {"a reference of 0 bytes", "SCAN X$0[L," L18 ",\"1\"]", 20, 20},
+    {"a reference of more bytes than there are", "SCAN X$1025[L," L18 ",\"3\"]", 20500, 20500},
+    {"a reference of more bytes than there are, from behind", "BACKSCAN X$8388607[L," L18 ",\"3\"]", 20500, 20500},
+    {"a free filler in front", "SCAN X[(F)," L18 ",\"3\"]", 19475, 19475},
+    {"a free filler behind, from behind", "BACKSCAN X[" L18 ",\"3\",(F)]", 19475, 19475},
+    {"free fillers alone", "SCAN X[(F),(G),(F)]", 0, 0},
+    {"no elements", "BACKSCAN X[]", 0, 0},
+    {"the last byte fits", "SCAN X[L," L18 ",\"2\"]=\"3\"", 20480, 20500},
+    {"the last byte fits, from behind", "BACKSCAN X[(F$N)," L18 ",\"1\"]", 20480, 20500},
+    {"all fit in a null string", "SCAN L[(F$N),(G)," L18 "]", 19, 19},
+    {"the reference is null afterwards", "SCAN X[(F),\"2\"]=", 1024, 1025},
+    {"the reference is longer afterwards", "SCAN L[(F$N)," L18 "]=\"123\"", 19, 19},
+    {"stopped by 17", "SCAN X$N[L," L18 ",\"3\"]", 0, 0},
+    {"stopped by 20, in the pattern", "SCAN X[L," L18 ",STRING(1025,M)]", 0, 0},
+    {"stopped by 20, in the replacement", "SCAN X[L," L18 ",\"2\"]=\"34\"", 0, 0},
+};
+
+/* A run step by step: the trials that its steps make together, and the most that those carried out may make. */
+static uint32_t trials_of_run(uint32_t *most)
+{
+    uint32_t trials = 0;
+    *most = 0;
+    start_anew();
+    for (int i = 0; i < MOST_LIST && NUMBERS_64(&lent, STATE)[STRIGOL_STATUS] == STRIGOL_RUNNING; i++) {
+        uint32_t of_step = oracle_most_in_step(lent.b[TABLE].at, lent.b[STORE].at, NUMBERS_64(&lent, STATE));
+        if (make_right(&lent, STEP) == 0) *most += of_step;
+        trials += NUMBERS_32(&lent, ANSWER)[STRIGOL_TRIALS];
+    }
+    return trials;
+}
+
+static void try_costs(void)
+{
+    static struct oracle_program p;
+    char lines[500];
+    for (size_t i = 0; i < sizeof costs / sizeof costs[0]; i++) {
+        uint32_t trials, most;
+        doing.part = costs[i].name;
+        snprintf(lines, sizeof lines, X_OF_1024 "%s|END|", costs[i].scan);
+        short_deck(lines, &deck);
+        if (!try_deck(&p, NULL, 0, MOST_OUTPUT)) fail("refused");
+        doing.part = costs[i].name;
+        trials = trials_of_run(&most);
+        if (trials != costs[i].trials || most != costs[i].most)
+            fail("%u trials of at most %u, not %u of %u", trials, most, costs[i].trials, costs[i].most);
+    }
+    if (trials_met != 20500) fail("at most %u trials, not 20,500", trials_met);
 }
 
 /* One step of the present table from a state that any statement can go on from, somewhere in the program. */
@@ -429,6 +496,7 @@ int main(int argc, char **argv)
         try_edges();
         for (int i = 0; i < SIDES; i++) {
             side = (enum side)i;
+            try_costs();
             try_sizes();
             try_rules();
             try_rich();
@@ -438,7 +506,7 @@ int main(int argc, char **argv)
     show_met(START, argc == 1);
     show_met(STEP, argc == 1);
     show_met(RUN, 0);
-    printf("step test: %d vectors, %d random decks, %d runs, %d changed tables keep the rules, %d failures\n", vectors_tried, seeds, runs_tried,
-           changed_kept, failures);
+    printf("step test: %d vectors, %d random decks, %d runs, %d changed tables keep the rules, %u trials at most, %d failures\n", vectors_tried,
+           seeds, runs_tried, changed_kept, trials_met, failures);
     return failures != 0;
 }

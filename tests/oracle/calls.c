@@ -49,7 +49,7 @@ static int store_keeps(const uint8_t *store, size_t store_len)
     return 1;
 }
 
-static void machine_of(const uint8_t *store, const uint64_t *state, struct machine *m)
+void oracle_machine_of(const uint8_t store[STORE_SIZE], const uint64_t state[STATE_SIZE], struct machine *m)
 {
     uint64_t *const first[] = {&m->status, &m->next, &m->held, &m->taken, &m->put};
     oracle_fresh(m);
@@ -98,7 +98,7 @@ uint32_t oracle_step_call(const uint8_t *table, size_t table_len, uint8_t *store
     if (!oracle_keeps(table)) return 13;
     if (!store_keeps(store, store_len)) return 14;
     oracle_program_of(table, &p);
-    machine_of(store, state, &m);
+    oracle_machine_of(store, state, &m);
     oracle_step(&p, &m, input, input_len, output, output_len, &a);
     if (a.number == 15 || a.number == 16) return (uint32_t)a.number;
     oracle_store(&m, store);

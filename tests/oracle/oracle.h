@@ -131,9 +131,10 @@ void oracle_step(const struct oracle_program *p, struct machine *m, const uint8_
                  size_t output_len, struct answer *a);
 void oracle_scan(const uint8_t *reference, int n, const struct scan_element *e, int count, struct answer *a);
 
-/* calls.c: the calls over byte slices and numbers, as docs/TABLE.md lays them out. */
+/* calls.c: the calls over byte slices and numbers, as docs/TABLE.md lays them out; the machine that a sound store and a state hold. */
 void oracle_store(const struct machine *m, uint8_t store[STORE_SIZE]);
 void oracle_state(const struct machine *m, uint64_t state[STATE_SIZE]);
+void oracle_machine_of(const uint8_t store[STORE_SIZE], const uint64_t state[STATE_SIZE], struct machine *m);
 void oracle_answer(const struct answer *a, uint32_t numbers[ANSWER_SIZE]);
 uint32_t oracle_read_call(const uint8_t *deck, size_t n, uint8_t *table, size_t table_len, uint32_t *card);
 uint32_t oracle_start_call(uint8_t *store, size_t store_len, uint64_t *state);
@@ -143,6 +144,12 @@ uint32_t oracle_scan_call(const uint8_t *reference, size_t reference_len, const 
                           size_t elements_len, uint32_t *answer);
 void oracle_run_call(const uint8_t *table, size_t table_len, uint8_t *store, size_t store_len, uint64_t *state, const uint8_t *input,
                      size_t input_len, uint8_t *output, size_t output_len, uint32_t count, uint64_t *result);
+
+/* costs.c: of a call that gives 0, the most trials that W8.2 lets it make: of a step, told by program and machine or by what is lent, 0 if it is no
+   scan; of a scan call, told by its reference's length and the rows lent. */
+uint32_t oracle_most_trials(const struct oracle_program *p, const struct machine *m);
+uint32_t oracle_most_in_step(const uint8_t table[TABLE_SIZE], const uint8_t store[STORE_SIZE], const uint64_t state[STATE_SIZE]);
+uint32_t oracle_most_in_scan(size_t reference_len, const uint8_t *elements, size_t elements_len);
 
 /* register.c: how many slots stand before the first empty one, whatever is in them, and the register's calls. */
 uint64_t oracle_register_lines(const uint8_t buffer[REGISTER_SIZE]);

@@ -1,12 +1,17 @@
--- The calls: what each answers and leaves (Calls), demand 3 (Demands), what each call promises (Promises), what the program prints (Strigol).
+-- The calls: what each answers and leaves (Calls), demand 3 (Demands), how many trials steps can cost (Costs), what each call promises
+-- (Promises), what the program prints (Strigol).
 -- Demand 3 proved (DemandLaws): programs in range run (NumberBounds, Invariant), buffers hold the machine (Holding, GivenLaws, StartLaws), calls
--- on them do what it does (StepLaws, ScanLaws, RunLaws), stopped steps change the status alone (StopLaws), and a call that does what its
--- definition does keeps its promise (PromiseLaws). No call of an accepted deck's run is turned down before it is over (TurnedDownLaws).
+-- on them do what it does (StepLaws, ScanLaws, RunLaws), stopped steps change the status alone (StopLaws), by the ways in which calls go (Cases),
+-- and a call that does what its definition does keeps its promise (PromiseLaws). No call of an accepted deck's run is turned down before it is
+-- over (TurnedDownLaws). No step costs more trials than its scan's size allows, no k steps more than k × 20 × 1,025 (CostLaws).
 -- The program of an accepted deck is in range (Accepted): literals are whole (Literals), and what a parser produces is what it mentions
 -- (Producing, for ProducingWords, ProducingNumeric, ProducingStrings, ProducingForms); where 8 doesn't apply to names, it doesn't apply to
 -- their places (ProducingRoles).
 pub mod Accepted
 pub mod Calls
+pub mod Cases
+pub mod CostLaws
+pub mod Costs
 pub mod DemandLaws
 pub mod Demands
 pub mod GivenLaws

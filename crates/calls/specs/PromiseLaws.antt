@@ -5,15 +5,19 @@ use Rattle.std.proofs.Math.Path.{subst}
 use Rattle.base.specs.Current.{current}
 use Rattle.base.specs.Edition.{Edition}
 use Rattle.validation.specs.Deck.{accepted}
-use Rattle.scanning.specs.Call.{no_answer}
+use Rattle.machine.specs.Costs.{StepWithin}
+use Rattle.scanning.specs.Call.{no_answer, trials_in}
 use Rattle.values.specs.Conversion.{longest_string}
 use Rattle.encoding.specs.Buffers.{state_size}
 use Rattle.calls.specs.Calls.{ReadCalled, read_call, Buffers, StepCalled, step_call, RunReturned, returned, run_call}
 use Rattle.calls.specs.DemandLaws.{accepted_tabled, demand3}
 use Rattle.encoding.specs.Conditions.{current-limit, current_wide, current_size}
-use Rattle.calls.specs.Demands.{Linked, observed_run, observed_step}
+use Rattle.calls.specs.Costs.{size_given}
+use Rattle.calls.specs.CostLaws.{call_within, after_within}
+use Rattle.calls.specs.Demands.{Linked, observed_run, observed_step, steps_tried}
 use Rattle.encoding.specs.Numerals.{bias}
 use Rattle.calls.specs.Promises.{HoldsProgram, ReadPromise, Keeps, StepPromise, RunPromise}
+use Rattle.calls.specs.RunLaws.{run_tried}
 use Rattle.calls.specs.StartLaws.{read_accepted}
 use Rattle.calls.specs.StopLaws.{LastKeeps, step_keeps, step_silent, run_keeps}
 use Rattle.encoding.specs.Table.{literals_at}
@@ -43,6 +47,8 @@ module _ (e : Edition) (limit : e.limit < bias) (wide : longest_string ≤ e.lim
           silent =
               subst (λ (x : StepCalled). ¬ (x.number ≡ 0) → x.answer ≡ no_answer) (sym does) (step_silent e table input b limit wide sized);
           list = λ h. demand3 e limit wide size table input b h (observed_step b back) back.left (refl, does, refl);
+          trials =
+              subst (λ (x : StepCalled). StepWithin (size_given e table input b) (trials_in x.answer)) (sym does) (call_within e table input b);
         }
 
     run_promised : (count : ℕ) (back : RunReturned) → (0 < count → length b.state ≡ state_size)
@@ -56,6 +62,8 @@ module _ (e : Edition) (limit : e.limit < bias) (wide : longest_string ≤ e.lim
               subst (LastKeeps e table input b) (sym does)
               (run_keeps e table input limit wide count b sized (λ none. some (ap (λ x. x.number) does ∙ none)));
           list = λ h. demand3 e limit wide size table input b h (observed_run count b back) back.left (refl, does, refl);
+          tried = subst (λ (x : RunReturned). steps_tried x ≤ count) (sym does) (run_tried e table input count b);
+          trials = after_within e table input (steps_tried back) b;
         }
 
 -- of edition 1

@@ -1,14 +1,17 @@
 -- What the calls promise: each is an equation with its definition, and what a customer is to know of it, for whatever is lent. (The scan
 -- call's promise is in scanning's Call.) Assumes nothing.
-use Rattle.std.specs.Prelude.{true, false, List, ◌≡◌, ℕ, suc, ◌<◌, drop, get_or}
+use Rattle.std.specs.Prelude.{true, false, List, ◌≡◌, ℕ, suc, ◌≤◌, ◌<◌, drop, get_or}
 use Rattle.base.specs.Edition.{Edition}
 use Rattle.validation.specs.Deck.{accepted, judge}
+use Rattle.machine.specs.Costs.{StepWithin}
 use Rattle.machine.specs.State.{stopped}
-use Rattle.scanning.specs.Call.{no_answer}
+use Rattle.scanning.specs.Call.{no_answer, trials_in}
+use Rattle.scanning.specs.Costs.{TrialsWithin}
 use Rattle.values.specs.Result.{stops_step}
 use Rattle.encoding.specs.Buffers.{status_number}
 use Rattle.calls.specs.Calls.{ReadCalled, read_call, StartCalled, start_call, Buffers, StepCalled, step_call, buffers_after}
 use Rattle.calls.specs.Calls.{RunReturned, returned, run_call}
+use Rattle.calls.specs.Costs.{steps_size, size_given, trials_after}
 use Rattle.calls.specs.Demands.{Demand3, History, observed_run, observed_step, steps_tried}
 use Rattle.encoding.specs.Rules.{keeps_rules}
 use Rattle.encoding.specs.TableReading.{program_in}
@@ -59,6 +62,9 @@ pub record StepPromise (e : Edition) (table input : List ℕ) (b : Buffers) (bac
   pub silent : ¬ (back.number ≡ 0) → back.answer ≡ no_answer
   -- demand 3, of every list of calls from a fresh start that ends with this one
   pub list : (h : History e table input b) → Demand3 e table input h (observed_step b back)
+  -- W8.2 "the trials carried in the answer never exceed m × (n + 1), for success and failure alike, forward and back": m and n of the scan that the
+  -- step is given; 0 where it holds none. (Stopped or turned down it has 0 as well: silent.)
+  pub trials : StepWithin (size_given e table input b) (trials_in back.answer)
 
 -- the run call, given a count of steps and the buffers b
 pub record RunPromise (e : Edition) (table input : List ℕ) (count : ℕ) (b : Buffers) (back : RunReturned) : Type 0 where
@@ -67,3 +73,8 @@ pub record RunPromise (e : Edition) (table input : List ℕ) (count : ℕ) (b : 
   pub keeps : ¬ (back.number ≡ 0)
       → (k : ℕ) × (steps_tried back ≡ suc k) × Keeps (buffers_after e table input k b) back.number back.left
   pub list : (h : History e table input b) → Demand3 e table input h (observed_run count b back)
+  -- it tries no more steps than its count
+  pub tried : steps_tried back ≤ count
+  -- W8.2 of these steps together, k of them: at most k × 20 × 1,025 trials. A run's result has no trials; they are those of the answers that the
+  -- definition of a step gives.
+  pub trials : TrialsWithin (steps_size (steps_tried back)) (trials_after e table input (steps_tried back) b)

@@ -1,5 +1,5 @@
--- A run of calls on buffers that hold a machine is the run of the machine; any run leaves what the steps that it tried leave; with a store too
--- small it is turned down. Assumes nothing.
+-- A run of calls on buffers that hold a machine is the run of the machine; any run leaves what the steps that it tried leave, and tries no more
+-- than its count; with a store too small it is turned down. Assumes nothing.
 use Rattle.std.proofs.lemmas.Bool.{false≢true}
 use Rattle.std.specs.Prelude.{Bool, List, ltb, eqb, length}
 use Rattle.std.proofs.Math.Bool.{true, false, cond}
@@ -28,6 +28,7 @@ use Rattle.values.specs.ResultLaws.{stops_some}
 use Rattle.encoding.specs.Buffers.{store_size, status_of, state_in}
 use Rattle.calls.specs.Calls.{Buffers, StepCalled, step_done, step_call, buffers_after, RunCalled, run_ended, run_with_step, run_behind, run_call}
 use Rattle.calls.specs.Calls.{outcome_number, result_numbers, returned}
+use Rattle.calls.specs.Cases.{by_ending}
 use Rattle.calls.specs.Demands.{steps_tried}
 use Rattle.calls.specs.Holding.{Holding}
 use Rattle.calls.specs.Invariant.{StateSound, returns_enough, next_sound, step_sound}
@@ -205,34 +206,35 @@ module _ (e : Edition) (limit : e.limit < bias) (wide : longest_string ≤ e.lim
       (eqb (step e p lent c).answer.number 0) (λ e₁. done-same c b h r q s rest (eqb-true _ 0 e₁))
       (λ e₁. undone_same c b h r q s rest (eqb-false _ 0 e₁))
 
--- the run behind a step, by how the step ended: it leaves what the steps that it tried leave
-module _ (e : Edition) (table input : List ℕ) (b : Buffers) (rest : RunCalled) where
-  behind-left : (stops met ends : Bool)
-      → (let s = step_call e table input b in
-      rest.left ≡ buffers_after e table input (steps_tried (returned rest)) s.left
-      → (let r = cond stops (run_with_step s (run_ended STOPPED s.number s.left))
-      (cond met (run_ended REFUSED s.number s.left)
-      (cond ends (run_with_step s (run_ended FINISHED 0 s.left)) (run_with_step s rest))) in
-      r.left ≡ buffers_after e table input (steps_tried (returned r)) b))
-  unfolding run_with_step run_ended returned result_numbers steps_tried outcome_number buffers_after
-  behind-left true met ends h = refl
-  behind-left false true ends h = refl
-  behind-left false false true h = refl
-  behind-left false false false h =
-      let turned : ℕ = cond (eqb (outcome_number rest.outcome) 3) 1 0 in
-      let one_more : suc (rest.steps + turned) ≡ 1 + rest.steps + turned = omega arith in
-      h ∙ ap (λ (k : ℕ). buffers_after e table input k b) one_more
+-- the run behind a step that goes on leaves what the steps that it tried leave, if the rest does
+later_left : (e : Edition) (table input : List ℕ) (b : Buffers) (rest : RunCalled)
+    → (let s = step_call e table input b in
+    rest.left ≡ buffers_after e table input (steps_tried (returned rest)) s.left
+    → (run_with_step s rest).left ≡ buffers_after e table input (steps_tried (returned (run_with_step s rest))) b)
+unfolding run_with_step returned result_numbers steps_tried outcome_number buffers_after
+later_left e table input b rest h =
+    let turned : ℕ = cond (eqb (outcome_number rest.outcome) 3) 1 0 in
+    let one_more : suc (rest.steps + turned) ≡ 1 + rest.steps + turned = omega arith in
+    h ∙ ap (λ (k : ℕ). buffers_after e table input k b) one_more
 
 -- a run leaves what the steps that it tried leave
 pub run-left : (e : Edition) (table input : List ℕ) (count : ℕ) (b : Buffers)
     → (run_call e table input count b).left ≡ buffers_after e table input (steps_tried (returned (run_call e table input count b))) b
-unfolding run_call run_behind run_ended returned result_numbers steps_tried outcome_number buffers_after
+unfolding run_call run_with_step run_ended returned result_numbers steps_tried outcome_number buffers_after
 run-left e table input zero b = refl
 run-left e table input (suc k) b =
     let s = step_call e table input b in
-    let rest = run_call e table input k s.left in
-    behind-left e table input b rest (stops_step s.number) (ltb 0 s.number) (eqb (get_or s.left.state 0 0) 1)
-    (run-left e table input k s.left)
+    by_ending (λ r. r.left ≡ buffers_after e table input (steps_tried (returned r)) b) s (run_call e table input k s.left) refl refl refl
+    (later_left e table input b (run_call e table input k s.left) (run-left e table input k s.left))
+
+-- a run tries no more steps than its count
+pub run_tried : (e : Edition) (table input : List ℕ) (count : ℕ) (b : Buffers) → steps_tried (returned (run_call e table input count b)) ≤ count
+unfolding run_call run_with_step run_ended returned result_numbers steps_tried outcome_number
+run_tried e table input zero b = omega arith
+run_tried e table input (suc k) b =
+    let s = step_call e table input b in
+    by_ending (λ r. steps_tried (returned r) ≤ suc k) s (run_call e table input k s.left) (omega arith) (omega arith) (omega arith)
+    (omega (arith, run_tried e table input k s.left))
 
 -- with a store too small a run is turned down
 pub small_run : (e : Edition) (p : Program) (table input : List ℕ) → Tabled e p table → (b : Buffers) → length b.store < store_size → (k : ℕ)

@@ -7,8 +7,9 @@ use Rattle.base.specs.Edition.{Edition}
 use Rattle.syntax.specs.Program as Program
 use Rattle.syntax.specs.Program.{Part, PatternElement, Direction, Branch}
 use Rattle.machine.specs.Ends.{Ending, stops, both-done, done_value}
-use Rattle.machine.specs.Scanning.{Searched, turned, searched_in, Valued, pattern_in, without_fillers, naming, replacing, ScanLeft, leaving, scanning_in}
+use Rattle.machine.specs.Scanning.{Searched, turned, Valued, without_fillers, naming, replacing, ScanLeft, leaving, scanning_in}
 use Rattle.machine.specs.State.{Memory, State, going_to}
+use Rattle.machine.specs.StepEnds.{scanning_done}
 use Rattle.machine.specs.Step.{Done, execution, concluded}
 use Rattle.scanning.specs.Call.{most_elements, split_numbers, answer_numbers, split_in}
 use Rattle.scanning.specs.FirstFit.{scan_first_fit}
@@ -39,51 +40,42 @@ scanned_back p r count notes size =
 -- what naming and replacement left
 left_by : (e : Edition) (m : Memory) (d : Direction) (xs : List PatternElement) (r : Option (List Program.Element)) (x : Searched)
     (vs : List Valued) (a : Scanned) (s : Option Split) (l : ScanLeft) (n : ℕ) → leaving e d x vs r (without_fillers xs m) a s ≡ done l n
-    → (l.scanned ≡ a) × LeftBy e m d xs r x vs s l.memory
+    → LeftBy e m d xs r x vs s l.memory
 unfolding leaving LeftBy pure
 left_by e m d xs r x vs a none l n q =
     let same : l ≡ record { memory = without_fillers xs m; scanned = a } = sym (done_value q) in
-    (ap (λ k. k.scanned) same, ap (λ k. k.memory) same)
+    ap (λ k. k.memory) same
 left_by e m d xs r x vs a (some s) l n q =
     let named = naming vs (drop s.start (turned d x.reference)) s.lengths (without_fillers xs m) in
     let parts = both-done (replacing e d x s r named) (λ k. pure (record { memory = k; scanned = a })) l n q in
     let after = parts.front in
     let same : l ≡ record { memory = after; scanned = a } = sym (done_value parts.is_behind) in
     let memories : after ≡ l.memory = sym (ap (λ k. k.memory) same) in
-    (ap (λ k. k.scanned) same, (parts.front_notes, parts.is_front ∙ ap (λ k. done k parts.front_notes) memories))
+    (parts.front_notes, parts.is_front ∙ ap (λ k. done k parts.front_notes) memories)
 
--- a statement that searched x for the pattern vs
-module _ (e : Edition) (m : Memory) (d : Direction) (q : Part) (xs : List PatternElement) (r : Option (List Program.Element)) (l : ScanLeft) where
-  scans_of : (x : Searched) (vs : List Valued) (n k j notes : ℕ) → searched_in m d q ≡ done x n → pattern_in e m xs ≡ done vs k
-      → (let a = scan (map (λ v. v.element) vs) (turned d x.reference) in
-      leaving e d x vs r (without_fillers xs m) a a.split ≡ done l j) → ScanClaim e m d q xs r (answer_numbers notes l.scanned) l.memory
-  scans_of x vs n k j notes is_searched is_valued is_left =
-      let p = map (λ v. v.element) vs in
-      let reference = turned d x.reference in
-      let a = scan p reference in
-      let left = left_by e m d xs r x vs a a.split l j is_left in
-      let back : split_in (length vs) (answer_numbers notes l.scanned) ≡ a.split =
-      ap (λ k. split_in (length vs) (answer_numbers notes k)) left.0
-      ∙ scanned_back p reference (length vs) notes (length-map vs (λ v. v.element)) in
-      record {
-        searched = x;
-        searched_notes = n;
-        is_searched = is_searched;
-        valued = vs;
-        valued_notes = k;
-        is_valued = is_valued;
-        first_fit = subst (AnswersFirstFit p reference) (sym back) (scan_first_fit p reference);
-        leaves = subst (λ s. LeftBy e m d xs r x vs s l.memory) (sym back) left.1;
-      }
-
-  -- a scanning statement that is done answers the first fit and leaves what naming and replacement make of it
-  pub scanning_scans : (n notes : ℕ) → scanning_in e m d q xs r ≡ done l n → ScanClaim e m d q xs r (answer_numbers notes l.scanned) l.memory
-  unfolding scanning_in
-  scanning_scans n notes is =
-      let front = both-done (searched_in m d q) _ l n is in
-      let behind = both-done (pattern_in e m xs) _ l front.notes front.is_behind in
-      scans_of front.front behind.front front.front_notes behind.front_notes behind.notes notes front.is_front behind.is_front
-      behind.is_behind
+-- a scanning statement that is done answers the first fit and leaves what naming and replacement make of it
+pub scanning_scans : (e : Edition) (m : Memory) (d : Direction) (q : Part) (xs : List PatternElement) (r : Option (List Program.Element))
+    (l : ScanLeft) (n notes : ℕ) → scanning_in e m d q xs r ≡ done l n → ScanClaim e m d q xs r (answer_numbers notes l.scanned) l.memory
+scanning_scans e m d q xs r l n notes is =
+    let z = scanning_done e m d q xs r l n is in
+    let x = z.searched in
+    let vs = z.valued in
+    let p = map (λ v. v.element) vs in
+    let reference = turned d x.reference in
+    let a = scan p reference in
+    let back : split_in (length vs) (answer_numbers notes l.scanned) ≡ a.split =
+    ap (λ k. split_in (length vs) (answer_numbers notes k)) z.is_scanned
+    ∙ scanned_back p reference (length vs) notes (length-map vs (λ v. v.element)) in
+    record {
+      searched = x;
+      searched_notes = z.searched_notes;
+      is_searched = z.is_searched;
+      valued = vs;
+      valued_notes = z.valued_notes;
+      is_valued = z.is_valued;
+      first_fit = subst (AnswersFirstFit p reference) (sym back) (scan_first_fit p reference);
+      leaves = subst (λ s. LeftBy e m d xs r x vs s l.memory) (sym back) (left_by e m d xs r x vs a a.split l z.left_notes z.is_left);
+    }
 
 -- a scanning step that is not stopped
 pub concluded_scans : {P : Done → Type 0} (e : Edition) (lent : ℕ) (c : State) (d : Direction) (q : Part) (xs : List PatternElement)

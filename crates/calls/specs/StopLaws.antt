@@ -10,13 +10,11 @@ use native.Mathlib.Omega.{arith}
 use Rattle.std.proofs.Math.Dec.{eqb}
 use Rattle.std.proofs.Math.ListN.{length, take, drop, get_or, length-drop}
 use Rattle.std.proofs.Math.Seq.{length-take-le}
-use Rattle.std.proofs.lemmas.Bool.{eqb-false}
-use Rattle.base.specs.Choice.{cond_cases, test_cases}
+use Rattle.base.specs.Choice.{test_cases}
 use Rattle.base.specs.Edition.{Edition}
 use Rattle.base.specs.ListLaws.{stretch_behind}
 use Rattle.encoding.specs.NumeralLaws.{numbers-same}
 use Rattle.machine.specs.State.{Status, stopped, State, with_status, most_numbers}
-use Rattle.machine.specs.Run.{FINISHED, STOPPED, REFUSED}
 use Rattle.machine.specs.StepEnds.{stopped_step, step_stops, turned_down_unstopped, undone_answer}
 use Rattle.machine.specs.Step.{most_returns, no_scan, turned_down_by, step}
 use Rattle.scanning.specs.Call.{answer_numbers, no_answer, split_numbers}
@@ -26,8 +24,9 @@ use Rattle.values.specs.ResultLaws.{stops_some}
 use Rattle.encoding.specs.BufferLaws.{good_image, keeps_good}
 use Rattle.encoding.specs.Buffers.{store_keeps, state_size, returns_at, numbers_at, status_number, returns_in, numbers_in}
 use Rattle.encoding.specs.Buffers.{state_keeps, state_in, store_left, state_left, output_left}
-use Rattle.calls.specs.Calls.{Buffers, left_of, StepCalled, given_in, out_of_range, step_refusal, step_done, step_call, buffers_after}
-use Rattle.calls.specs.Calls.{RunCalled, RunReturned, outcome_number, result_numbers, returned, run_ended, run_with_step, run_behind, run_call}
+use Rattle.calls.specs.Cases.{by_refusal, by_ending}
+use Rattle.calls.specs.Calls.{Buffers, left_of, given_in, out_of_range, step_refusal, step_done, step_call, buffers_after}
+use Rattle.calls.specs.Calls.{RunCalled, RunReturned, outcome_number, result_numbers, returned, run_ended, run_with_step, run_call}
 use Rattle.calls.specs.Demands.{steps_tried}
 use Rattle.calls.specs.GivenLaws.{StateInRange, state_in_range, returns-count, given_sound, given_holds, Unrefused, unrefused}
 use Rattle.calls.specs.Holding.{Holding}
@@ -116,15 +115,6 @@ module _ (e : Edition) (table input : List ℕ) (b : Buffers) where
       refusal_unstopped (ltb (length table) e.table_size) (keeps_rules e table) (store_keeps b.store) (out_of_range e table input b)
       (turned_down_by (program_in table) (given_in e table input b)) (turned_down_unstopped (program_in table) (given_in e table input b))
 
-  -- a step is refused, and all stays, or is carried out
-  by_refusal : (P : StepCalled → Type 0) → (¬ (step_refusal e table input b ≡ 0) → P (record { number = step_refusal e table input b; answer = no_answer; left = b }))
-      → (Unrefused e table input b → P (step_done e table input b (step e (program_in table) (length b.output) (given_in e table input b))))
-      → P (step_call e table input b)
-  unfolding step_call
-  by_refusal P f g =
-      let n = step_refusal e table input b in
-      cond_cases P (eqb n 0) (λ q. g (unrefused e table input b (eqb-true n 0 q))) (λ q. f (eqb-false n 0 q))
-
   -- the state left is stopped, and nothing else is changed
   abbrev Stopped : Buffers → Type 0
   Stopped left = left ≡ with_state (status_number stopped ∷ drop 1 b.state) b
@@ -156,7 +146,7 @@ module _ (e : Edition) (table input : List ℕ) (b : Buffers) where
     pub step_keeps : Keeps b (step_call e table input b).number (step_call e table input b).left
     unfolding step_done
     step_keeps =
-        by_refusal (λ s. Keeps b s.number s.left)
+        by_refusal e table input b (λ s. Keeps b s.number s.left)
         (λ q.
         record {
           store = λ _. refl;
@@ -178,7 +168,7 @@ module _ (e : Edition) (table input : List ℕ) (b : Buffers) where
     pub step_silent : ¬ ((step_call e table input b).number ≡ 0) → (step_call e table input b).answer ≡ no_answer
     unfolding step_done answer_numbers no_answer no_scan split_numbers
     step_silent =
-        by_refusal (λ s. ¬ (s.number ≡ 0) → s.answer ≡ no_answer) (λ q h. refl)
+        by_refusal e table input b (λ s. ¬ (s.number ≡ 0) → s.answer ≡ no_answer) (λ q h. refl)
         (λ u h.
         let a = undone_answer e (program_in table) (length b.output) (given_in e table input b) h in
         ap₂ answer_numbers a.0 a.1)
@@ -213,36 +203,29 @@ abbrev pub LastKeeps : (e : Edition) (table input : List ℕ) → Buffers → Ru
 LastKeeps e table input b back =
     (k : ℕ) × (steps_tried back ≡ suc k) × Keeps (buffers_after e table input k b) back.number back.left
 
--- the run behind a step, by how the step ended
-module _ (e : Edition) (table input : List ℕ) (b : Buffers) (rest : RunCalled) where
-  behind_keeps : (stops met ends : Bool)
-      → (let s = step_call e table input b in
-      Keeps b s.number s.left
-      → (¬ (rest.number ≡ 0) → LastKeeps e table input s.left (returned rest))
-      → (let r = cond stops (run_with_step s (run_ended STOPPED s.number s.left))
-      (cond met (run_ended REFUSED s.number s.left)
-      (cond ends (run_with_step s (run_ended FINISHED 0 s.left)) (run_with_step s rest))) in
-      ¬ (r.number ≡ 0) → LastKeeps e table input b (returned r)))
-  unfolding run_with_step run_ended returned result_numbers steps_tried outcome_number buffers_after
-  behind_keeps true met ends k h n = (0, refl, k)
-  behind_keeps false true ends k h n = (0, refl, k)
-  behind_keeps false false true k h n = absurd (n refl)
-  behind_keeps false false false k h n =
-      let last = h n in
-      let turned : ℕ = cond (eqb (outcome_number rest.outcome) 3) 1 0 in
-      let before : rest.steps + turned ≡ suc last.0 = last.1 in
-      let one_more : 1 + rest.steps + turned ≡ suc (suc last.0) = omega arith in
-      (suc last.0, one_more, last.2)
+-- the last step of the run behind a step that goes on is that of the rest
+later_keeps : (e : Edition) (table input : List ℕ) (b : Buffers) (rest : RunCalled)
+    → (let s = step_call e table input b in
+    (¬ (rest.number ≡ 0) → LastKeeps e table input s.left (returned rest))
+    → ¬ ((run_with_step s rest).number ≡ 0) → LastKeeps e table input b (returned (run_with_step s rest)))
+unfolding run_with_step returned result_numbers steps_tried outcome_number buffers_after
+later_keeps e table input b rest h n =
+    let last = h n in
+    let turned : ℕ = cond (eqb (outcome_number rest.outcome) 3) 1 0 in
+    let before : rest.steps + turned ≡ suc last.0 = last.1 in
+    let one_more : 1 + rest.steps + turned ≡ suc (suc last.0) = omega arith in
+    (suc last.0, one_more, last.2)
 
 -- of every run
 pub run_keeps : (e : Edition) (table input : List ℕ) → e.limit < bias → longest_string ≤ e.limit → (count : ℕ) (b : Buffers)
     → (0 < count → length b.state ≡ state_size) → (let r = run_call e table input count b in ¬ (r.number ≡ 0) → LastKeeps e table input b (returned r))
-unfolding run_call run_behind run_ended
+unfolding run_call run_with_step run_ended returned result_numbers steps_tried outcome_number buffers_after
 run_keeps e table input limit wide zero b size n = absurd (n refl)
 run_keeps e table input limit wide (suc k) b size n =
     let s = step_call e table input b in
-    let rest = run_call e table input k s.left in
     let now = size (omega arith) in
-    behind_keeps e table input b rest (stops_step s.number) (ltb 0 s.number) (eqb (get_or s.left.state 0 0) 1)
-    (step_keeps e table input b limit wide now)
-    (run_keeps e table input limit wide k s.left (λ _. step_size e table input b limit wide now)) n
+    let kept = step_keeps e table input b limit wide now in
+    by_ending (λ r. ¬ (r.number ≡ 0) → LastKeeps e table input b (returned r)) s (run_call e table input k s.left) (λ _. (0, refl, kept))
+    (λ _. (0, refl, kept)) (λ some. absurd (some refl))
+    (later_keeps e table input b (run_call e table input k s.left)
+    (run_keeps e table input limit wide k s.left (λ _. step_size e table input b limit wide now))) n

@@ -31,6 +31,12 @@ unfolding
     Rattle.scanning.specs.Call.scan_with
     Rattle.scanning.specs.Call.scan_call
     Rattle.scanning.specs.Call.split_in
+    Rattle.scanning.specs.Call.trials_in
+    Rattle.scanning.specs.CostLaws.costly_pattern
+    Rattle.scanning.specs.Costs.tested_elements
+    Rattle.scanning.specs.Costs.scan_size
+    Rattle.scanning.specs.Costs.most_trials
+    Rattle.scanning.specs.Costs.TrialsWithin
     Rattle.scanning.specs.Splits.Suits
     Rattle.scanning.specs.Splits.PiecesFit
     Rattle.scanning.specs.Splits.Fits
@@ -257,6 +263,11 @@ unfolding
     Rattle.values.specs.Result.with_notes
     Rattle.values.specs.Result.pure
     Rattle.values.specs.Result.◌>>=◌
+    Rattle.machine.specs.Costs.pattern_tested
+    Rattle.machine.specs.Costs.reference_bytes
+    Rattle.machine.specs.Costs.statement_size
+    Rattle.machine.specs.Costs.scan_size_in
+    Rattle.machine.specs.Costs.StepWithin
     Rattle.machine.specs.Expressions.length_in
     Rattle.machine.specs.Expressions.part_in
     Rattle.machine.specs.Expressions.operation
@@ -487,6 +498,9 @@ unfolding
     Rattle.calls.specs.Calls.run_with_step
     Rattle.calls.specs.Calls.run_behind
     Rattle.calls.specs.Calls.run_call
+    Rattle.calls.specs.Costs.steps_size
+    Rattle.calls.specs.Costs.size_given
+    Rattle.calls.specs.Costs.trials_after
     Rattle.calls.specs.Demands.LeftBy
     Rattle.calls.specs.Demands.IsFiller
     Rattle.calls.specs.Demands.steps_tried

@@ -1,8 +1,9 @@
--- A memory within its bounds, and that all work of the machine but numeric expressions leaves it so; what turning round changes.
+-- A memory within its bounds, and that all work of the machine but numeric expressions leaves it so; what turning round changes, and how many bytes
+-- a restricted reference has.
 -- Assumes nothing.
 use mathlib.Core.List.{List, [], ◌∷◌, ◌++◌, map, reverse-reverse}
 use Rattle.std.proofs.Math.Option.{Option, none, some}
-use Rattle.std.specs.Prelude.{◌≡◌, refl, ℕ, zero, suc, ◌+◌, ◌≤◌, leb, ltb, eqb, ℤ, pos, take, get_or, set, replicate}
+use Rattle.std.specs.Prelude.{◌≡◌, refl, ℕ, zero, suc, ◌+◌, ◌-◌, ◌≤◌, min, leb, ltb, eqb, ℤ, pos, take, get_or, set, replicate}
 use Rattle.std.proofs.Common.{◌∙◌, arith, leb-true}
 use Rattle.std.proofs.Math.IntN.{nat_abs}
 use Rattle.std.proofs.Math.ListN.{length, drop, length-take, length-drop, length-set, length-replicate}
@@ -57,6 +58,12 @@ pub turned-twice : (d : Direction) (r : List ℕ) → turned d (turned d r) ≡ 
 unfolding turned
 turned-twice forward r = refl
 turned-twice backward r = reverse-reverse r
+
+-- V5, V3 the restricted reference has n bytes, or all if the string is shorter
+pub restricted_size : (d : Direction) (s n : ℕ) (v : List ℕ) → length (restricted d s n v).reference ≡ min n (length v)
+unfolding restricted
+restricted_size forward s n v = length-take n v
+restricted_size backward s n v = rw (length-drop (length v - n) v) (omega arith)
 
 module _ (e : Edition) where
   -- the memory before the first step
@@ -165,9 +172,8 @@ module _ (e : Edition) where
   Within x = length x.reference ≤ longest_string
 
   restricted_within : (d : Direction) (s n : ℕ) (v : List ℕ) → length v ≤ longest_string → Within (restricted d s n v)
-  unfolding restricted Within
-  restricted_within forward s n v h = simp length-take (omega arith)
-  restricted_within backward s n v h = simp length-drop (omega arith)
+  unfolding Within
+  restricted_within d s n v h = omega (arith, restricted_size d s n v)
 
   searched_within : (m : Memory) (d : Direction) (p : Part) → MemoryBounded e m → Ending Within (searched_in m d p)
   unfolding searched_in pure stops_step

@@ -1,19 +1,25 @@
--- How a step ends: turned down, with the state as it was; stopped, with the status changed alone; or done, and not stopped.
+-- How a step ends: turned down, with the state as it was; stopped, with the status changed alone; or done, and not stopped. What a scanning
+-- statement that is done searched, scanned and left.
 -- Assumes nothing.
-use Rattle.std.specs.Prelude.{Bool, true, false, cond, ◌||◌, List, [], ◌∷◌, ◌⊎◌, ◌≡◌, refl, ℕ, ◌+◌, leb, eqb, nat_abs, length}
+use Rattle.std.specs.Prelude.{Bool, true, false, cond, ◌||◌, List, [], ◌∷◌, map, ◌⊎◌, ◌≡◌, refl, ℕ, ◌+◌, leb, eqb, nat_abs, length, drop}
+use Rattle.std.proofs.Math.Option.{Option, none, some}
 use Rattle.std.proofs.Common.{inl, inr, sym, ◌∙◌, ap, arith}
 use Rattle.base.specs.Choice.{cond_cases}
 use Rattle.base.specs.Edition.{Edition}
 use Rattle.base.specs.Lists.{is_nil}
 use Rattle.syntax.specs.Program as Program
-use Rattle.syntax.specs.Program.{Part, whole, first, Branch, Statement, set_number, set_string, goto, finish, if_test, read, write, execute}
+use Rattle.syntax.specs.Program.{Part, whole, first, PatternElement, Direction, Branch, Statement, set_number, set_string, goto, finish}
+use Rattle.syntax.specs.Program.{if_test, read, write, execute}
 use Rattle.syntax.specs.Program.{return, Program}
 use Rattle.machine.specs.Ends.{Ending, ends, stops, both-done, done_value, stop_not_done}
 use Rattle.machine.specs.Expressions.{length_in, numeric_in, test_in, string_in}
+use Rattle.machine.specs.Scanning.{Searched, turned, searched_in, Valued, pattern_in, without_fillers, naming, replacing, ScanLeft, leaving}
 use Rattle.machine.specs.Scanning.{scanning_in}
-use Rattle.machine.specs.State.{finished, stopped, is_running, State, going_to, with_returns, with_input, with_output, with_status}
+use Rattle.machine.specs.State.{finished, stopped, is_running, Memory, State, going_to, with_returns, with_input, with_output, with_status}
 use Rattle.machine.specs.Step.{no_scan, Done, moving, set_string_in, Taken, take_record, cut_noted, reading, shortened, put_record, returning}
 use Rattle.machine.specs.Step.{execution, statement_at, lacks_return, turned_down_by, Stepped, concluded, step}
+use Rattle.scanning.specs.Splits.{Split}
+use Rattle.scanning.specs.Trials.{Scanned, scan}
 use Rattle.values.specs.Conversion.{longest_string}
 use Rattle.values.specs.Numbers.{is_negative}
 use Rattle.values.specs.Result.{stops_step, Result, done, stop, pure}
@@ -83,14 +89,76 @@ still_running p c h is =
     never true g = omega arith
     never false g = omega arith
 
+-- naming and replacement leave what was scanned
+left_scanned : (e : Edition) (d : Direction) (x : Searched) (vs : List Valued) (r : Option (List Program.Element)) (m : Memory) (a : Scanned)
+    (s : Option Split) (l : ScanLeft) (n : ℕ) → leaving e d x vs r m a s ≡ done l n → l.scanned ≡ a
+unfolding leaving pure
+left_scanned e d x vs r m a none l n h = ap (λ (y : ScanLeft). y.scanned) (sym (done_value h))
+left_scanned e d x vs r m a (some s) l n h =
+    let named = naming vs (drop s.start (turned d x.reference)) s.lengths m in
+    let parts = both-done (replacing e d x s r named) (λ w. pure (record { memory = w; scanned = a })) l n h in
+    ap (λ (y : ScanLeft). y.scanned) (sym (done_value parts.is_behind))
+
+-- a scanning statement that is done: what it searched, for which values, what it scanned and left
+pub record ScanningDone (e : Edition) (m : Memory) (d : Direction) (q : Part) (xs : List PatternElement) (r : Option (List Program.Element))
+    (l : ScanLeft) : Type 0 where
+  pub searched : Searched
+  pub searched_notes : ℕ
+  pub is_searched : searched_in m d q ≡ done searched searched_notes
+  pub valued : List Valued
+  pub valued_notes : ℕ
+  pub is_valued : pattern_in e m xs ≡ done valued valued_notes
+  pub left_notes : ℕ
+  pub is_left : (let a = scan (map (λ v. v.element) valued) (turned d searched.reference) in
+      leaving e d searched valued r (without_fillers xs m) a a.split ≡ done l left_notes)
+  pub is_scanned : l.scanned ≡ scan (map (λ v. v.element) valued) (turned d searched.reference)
+
+pub scanning_done : (e : Edition) (m : Memory) (d : Direction) (q : Part) (xs : List PatternElement) (r : Option (List Program.Element))
+    (l : ScanLeft) (n : ℕ) → scanning_in e m d q xs r ≡ done l n → ScanningDone e m d q xs r l
+unfolding scanning_in
+scanning_done e m d q xs r l n h =
+    let front = both-done (searched_in m d q) _ l n h in
+    let behind = both-done (pattern_in e m xs) _ l front.notes front.is_behind in
+    let x = front.front in
+    let vs = behind.front in
+    let a = scan (map (λ v. v.element) vs) (turned d x.reference) in
+    record {
+      searched = x;
+      searched_notes = front.front_notes;
+      is_searched = front.is_front;
+      valued = vs;
+      valued_notes = behind.front_notes;
+      is_valued = behind.is_front;
+      left_notes = behind.notes;
+      is_left = behind.is_behind;
+      is_scanned = left_scanned e d x vs r (without_fillers xs m) a a.split l behind.notes behind.is_behind;
+    }
+
 -- the status as it was, or finished
 abbrev pub Alive : State → State → Type 0
 Alive c d = (d.status ≡ c.status) ⊎ (d.status ≡ finished)
 
--- where a statement moves to
-moved : (s : State) (d : Done) (n : ℕ) → moving s ≡ done d n → d.state ≡ s
+-- work that ends by `moving` leaves the state given to it and scans nothing
+pub moving_done : (s : State) (d : Done) (n : ℕ) → moving s ≡ done d n → d ≡ record { state = s; scanned = no_scan }
 unfolding moving pure
-moved s d n q = ap (λ x. x.state) (sym (done_value q))
+moving_done s d n q = sym (done_value q)
+
+-- so its state is the one given
+moved : (s : State) (d : Done) (n : ℕ) → moving s ≡ done d n → d.state ≡ s
+moved s d n q = ap (λ x. x.state) (moving_done s d n q)
+
+-- what a READ that is done took, so many bytes at most for a string
+pub reading_done : (q : Part) (b : Branch) (c : State) (d : Done) (n : ℕ) → reading q b c ≡ done d n
+    → (s : ℕ) × (most : ℕ) × (d ≡ record { state = (take_record s most b c).state; scanned = no_scan })
+unfolding reading cut_noted
+reading_done (whole s) b c d n h = (s, longest_string, sym (done_value h))
+reading_done (first s k) b c d n h =
+    let z = length_in c.memory k in (
+      s,
+      nat_abs z,
+      cond_cases (λ w. w ≡ done d n → d ≡ record { state = (take_record s (nat_abs z) b c).state; scanned = no_scan }) (is_negative z)
+          (λ q g. absurd (stop_not_done 17 d n g)) (λ q g. sym (done_value g)) h,
+    )
 
 -- READ and WRITE and RETURN leave the status
 taking_status : (s most : ℕ) (b : Branch) (c : State) → (take_record s most b c).state.status ≡ c.status
@@ -98,12 +166,9 @@ unfolding take_record going_to with_input
 taking_status s most b c = cond_cases (λ (t : Taken). t.state.status ≡ c.status) (eqb most 0 || is_nil c.input) (λ q. refl) (λ q. refl)
 
 reading-status : (q : Part) (b : Branch) (c : State) (d : Done) (n : ℕ) → reading q b c ≡ done d n → d.state.status ≡ c.status
-unfolding reading cut_noted
-reading-status (whole s) b c d n h = ap (λ (x : Done). x.state.status) (sym (done_value h)) ∙ taking_status s longest_string b c
-reading-status (first s k) b c d n h =
-    let z = length_in c.memory k in
-    cond_cases (λ w. w ≡ done d n → d.state.status ≡ c.status) (is_negative z) (λ q h. absurd (stop_not_done 17 d n h))
-    (λ q h. ap (λ (x : Done). x.state.status) (sym (done_value h)) ∙ taking_status s (nat_abs z) b c) h
+reading-status q b c d n h =
+    let took = reading_done q b c d n h in
+    ap (λ (x : Done). x.state.status) took.2 ∙ taking_status took.0 took.1 b c
 
 putting_status : (lent : ℕ) (v : List ℕ) (c d : State) (n : ℕ) → put_record lent v c ≡ done d n → d.status ≡ c.status
 unfolding put_record pure with_output

@@ -26,7 +26,9 @@ use Rattle.scanning.specs.Laws.{fits_count}
 use Rattle.scanning.specs.FirstFit.{scan_first_fit}
 use Rattle.scanning.specs.Call.{longest_reference, most_elements, scan_row_size, number4, row_count, string_of_row, fixed_by, element_of_row}
 use Rattle.scanning.specs.Call.{no_answer, join_element, elements_of_rows, pattern_of_rows, split_numbers, answer_numbers, Called, scan_turned_down, scan_with, scan_call}
-use Rattle.scanning.specs.Call.{split_in, ScanPromise}
+use Rattle.scanning.specs.Call.{split_in, trials_in, ScanPromise}
+use Rattle.scanning.specs.Costs.{scan_size, TrialsWithin}
+use Rattle.scanning.specs.CostLaws.{scan_within, trials_back}
 use Rattle.scan.specs.Rows.{scan_row, scan_row_at, row_element, scan_element, scan_elements, pattern_of, RowGood, GoodRows, WholeRows, GoodPattern, some_element, is_element}
 use Rattle.scan.proofs.Chunks.{concat_length, concat_row, concat_element, chunks_whole, chunks_concat, take_row}
 use Rattle.scan.specs.declared.Element.{Element}
@@ -317,26 +319,36 @@ not_refused false true x number e z = absurd (omega arith)
 not_refused false false x number e z = refl
 
 module _ (reference values elements : List ℕ) (number : ℕ) (answer : List ℕ) where
-  -- a number and an answer that are the call's carry the first-fit claim
+  -- a number and an answer that are the call's carry the first-fit claim and the bound on trials
   pub promise : number ≡ (scan_call reference values elements).number → answer ≡ (scan_call reference values elements).answer
       → ScanPromise reference values elements number answer
   unfolding scan_call scan_with answer_numbers FirstFit
-  promise n a = record { result = n; left = a; first_fit = first }
+  promise n a = record { result = n; left = a; first_fit = first; trials = within }
     where
-      first : (p : List Splits.Element) → number ≡ 0 → pattern_of_rows values elements ≡ some p
-          → AnswersFirstFit p reference (split_in (length p) answer)
-      first p z e =
-          let told = scan_first_fit p reference in
+      -- what is left, where nothing turns the call down
+      scanned : (p : List Splits.Element) → number ≡ 0 → pattern_of_rows values elements ≡ some p → answer ≡ answer_numbers 0 (scan p reference)
+      scanned p z e =
           let called : scan_call reference values elements ≡ scan_with (some p) reference =
           not_refused (ltb longest_reference (length reference)) (ltb most_elements (row_count elements))
           (scan_with (pattern_of_rows values elements) reference) number n z
           ∙ ap (λ (o : Option (List Splits.Element)). scan_with o reference) e in
-          let left : answer ≡ split_numbers (scan p reference).split (scan p reference).trials 0 = a ∙ ap (λ (c : Called). c.answer) called in
+          a ∙ ap (λ (c : Called). c.answer) called
+
+      first : (p : List Splits.Element) → number ≡ 0 → pattern_of_rows values elements ≡ some p
+          → AnswersFirstFit p reference (split_in (length p) answer)
+      first p z e =
+          let told = scan_first_fit p reference in
           let back : split_in (length p) answer ≡ (scan p reference).split =
-          ap (split_in (length p)) left
+          ap (split_in (length p)) (scanned p z e)
           ∙ split-back (scan p reference).split (scan p reference).trials (length p)
           (λ s is. fits_count p reference s ((told.first s is s).0 refl).0) in
           subst (AnswersFirstFit p reference) (sym back) told
+
+      within : (p : List Splits.Element) → number ≡ 0 → pattern_of_rows values elements ≡ some p
+          → TrialsWithin (scan_size p reference) (trials_in answer)
+      within p z e =
+          subst (TrialsWithin (scan_size p reference)) (sym (ap trials_in (scanned p z e) ∙ trials_back 0 (scan p reference)))
+          (scan_within p reference)
 
   pub promise_kept : scan_call reference values elements ≡ record { number = number; answer = answer }
       → ScanPromise reference values elements number answer

@@ -5,6 +5,7 @@ use Prim.Native.Nat.{ℕ, ◌+◌, ◌*◌, ◌-◌, ◌≤◌, ◌<◌}
 use native.Mathlib.Omega.{arith}
 use lib.ListN.{length, drop, set, length-append, length-drop}
 use lib.Seq.{drop-drop}
+use Rattle.scanning.specs.Laws.{slide_slid}
 use Rattle.scanning.specs.Splits as Splits
 use Rattle.scanning.specs.Splits.{free}
 use Rattle.scanning.specs.Trials.{Tried, found, other, few, match, slide}
@@ -18,7 +19,7 @@ use Rattle.scan.specs.Steps.{test_of, tried_as, passed_behind, resumed_trial, gr
 use Rattle.scan.specs.declared.Element.{Element}
 use Rattle.scan.proofs.Answers.{row-set, row_settled, outcome, RunFound}
 use Rattle.scan.proofs.Rows.{elements_cons, elements_none, sizes-length, match-other}
-use Rattle.scan.proofs.Slides.{resumed_none, slide_slid, slides_on, slides_off, slides_few, slides_over, slides_found, slides_whole}
+use Rattle.scan.proofs.Slides.{resumed_none, slides_on, slides_off, slides_few, slides_over, slides_found, slides_whole}
 
 -- the group from row g on is tried at place, having come from the end of the group before; the lengths before it are settled
 pub record Running (reference values rows : List ℕ) (count : ℕ) (answer : List ℕ) (g from place trials : ℕ) : Type 0 where

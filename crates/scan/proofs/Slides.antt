@@ -5,31 +5,9 @@ use mathlib.Core.Path.{◌≡◌, refl, sym, ◌∙◌, ap}
 use Prim.Native.Nat.{ℕ, zero, suc, ◌+◌, ◌≤◌, ◌<◌}
 use native.Mathlib.Omega.{arith}
 use lib.ListN.{length, drop}
+use Rattle.scanning.specs.Laws.{Slid, slid_found, slid_few, slide_slid}
 use Rattle.scanning.specs.Trials.{Tried, found, other, few, place_moved, settled, slide}
 use Rattle.scan.specs.Steps.{passed_behind, resumed_trial}
-
--- found with a first length, or too few bytes: what a slide can end with
-pub data Slid : Tried → Type 0 where
-  slid_found : (gap : ℕ) (ls : List ℕ) (n : ℕ) → Slid (found (gap ∷ ls) n)
-  slid_few : (n : ℕ) → Slid (few n)
-
-moved_slid : (n : ℕ) (t : Tried) → Slid t → Slid (place_moved n t)
-unfolding place_moved
-moved_slid n (found (gap ∷ ls) m) (slid_found _ _ _) = slid_found (suc gap) ls (n + m)
-moved_slid n (few m) (slid_few _) = slid_few (n + m)
-moved_slid n (found [] m) h = elim h [ ]
-moved_slid n (other _) h = elim h [ ]
-
-settled_slid : (t next : Tried) → Slid next → Slid (settled t next)
-unfolding settled
-settled_slid (found ls n) next h = slid_found 0 ls n
-settled_slid (other n) next h = moved_slid n next h
-settled_slid (few n) next h = slid_few n
-
-pub slide_slid : (row : List ℕ → Tried) (s : List ℕ) → Slid (slide row s)
-unfolding slide
-slide_slid row [] = settled_slid (row []) (few 0) (slid_few 0)
-slide_slid row (b ∷ rest) = settled_slid (row (b ∷ rest)) (slide row rest) (slide_slid row rest)
 
 -- what the places further right give
 onward : (List ℕ → Tried) → List ℕ → Tried

@@ -6,6 +6,7 @@ use Rattle.std.specs.Prelude.{cond, ◌&&◌, List, [], ◌∷◌, ◌++◌, ◌
 use Rattle.std.proofs.Math.Option.{Option, none, some}
 use Rattle.scanning.specs.Splits.{Element, string, fixed, free, Split, AnswersFirstFit}
 use Rattle.scanning.specs.Trials.{Scanned, scan}
+use Rattle.scanning.specs.Costs.{scan_size, TrialsWithin}
 use Rattle.base.specs.Limits as Limits
 
 -- the longest reference, the most elements of a pattern, the bytes of an element's row
@@ -98,10 +99,17 @@ split_in count answer =
     (some (record { start = get_or answer 1 0; lengths = take count (drop 4 answer) }))
     none
 
--- The scan call's promise: its number and every number left are scanCall's, and demand 3 "The scan call, on whatever reference and pattern
--- it doesn't turn down, likewise fails exactly when no split fits and otherwise answers the first fit."
+-- N14, F5 the trials that an answer's numbers carry
+unfoldable pub trials_in : List ℕ → ℕ
+trials_in answer = get_or answer 2 0
+
+-- The scan call's promise: its number and every number left are scan_call's; demand 3 "The scan call, on whatever reference and pattern it doesn't
+-- turn down, likewise fails exactly when no split fits and otherwise answers the first fit."; and W8.2 "the trials carried in the answer never
+-- exceed m × (n + 1)", of the reference and the elements lent.
 pub record ScanPromise (reference values elements : List ℕ) (number : ℕ) (answer : List ℕ) : Type 0 where
   pub result : number ≡ (scan_call reference values elements).number
   pub left : answer ≡ (scan_call reference values elements).answer
   pub first_fit : (p : List Element) → number ≡ 0 → pattern_of_rows values elements ≡ some p
       → AnswersFirstFit p reference (split_in (length p) answer)
+  pub trials : (p : List Element) → number ≡ 0 → pattern_of_rows values elements ≡ some p
+      → TrialsWithin (scan_size p reference) (trials_in answer)

@@ -1,8 +1,9 @@
--- The order of splits is strict and total, and a first fit is unique. Assumes nothing.
-use Rattle.std.specs.Prelude.{List, [], ◌∷◌, ◌⊎◌, ◌≢◌, ◌≡◌, refl, ℕ, zero, suc, ◌<◌, length, drop}
+-- The order of splits is strict and total, and a first fit is unique; what a slide ends with. Assumes nothing.
+use Rattle.std.specs.Prelude.{List, [], ◌∷◌, ◌⊎◌, ◌≢◌, ◌≡◌, refl, ℕ, zero, suc, ◌+◌, ◌<◌, length, drop}
 use Rattle.std.proofs.Common.{inl, inr, ⊎_elim, sym, ◌∙◌, ap, arith}
 use Rattle.std.proofs.Math.Logic.{⊎_map}
 use Rattle.scanning.specs.Splits.{Element, Split, PiecesFit, Fits, Longer, Later, FirstFit}
+use Rattle.scanning.specs.Trials.{Tried, found, other, few, place_moved, settled, slide}
 
 -- two numbers are equal or one is greater
 number_total : (l m : ℕ) → (l ≡ m) ⊎ ((m < l) ⊎ (l < m))
@@ -101,3 +102,26 @@ unfolding FirstFit
 first_fit_unique p r s t f g =
     let never = ⊎_elim (first_fit_least p r s t f g.0) (first_fit_least p r t s g f.0) in
     ⊎_elim (λ e. e) (λ later. absurd (never later)) (fits_total p r s t f.0 g.0)
+
+-- found with a first length, or too few bytes: what a slide can end with
+pub data Slid : Tried → Type 0 where
+  slid_found : (gap : ℕ) (ls : List ℕ) (n : ℕ) → Slid (found (gap ∷ ls) n)
+  slid_few : (n : ℕ) → Slid (few n)
+
+moved_slid : (n : ℕ) (t : Tried) → Slid t → Slid (place_moved n t)
+unfolding place_moved
+moved_slid n (found (gap ∷ ls) m) (slid_found _ _ _) = slid_found (suc gap) ls (n + m)
+moved_slid n (few m) (slid_few _) = slid_few (n + m)
+moved_slid n (found [] m) h = elim h [ ]
+moved_slid n (other _) h = elim h [ ]
+
+settled_slid : (t next : Tried) → Slid next → Slid (settled t next)
+unfolding settled
+settled_slid (found ls n) next h = slid_found 0 ls n
+settled_slid (other n) next h = moved_slid n next h
+settled_slid (few n) next h = slid_few n
+
+pub slide_slid : (row : List ℕ → Tried) (s : List ℕ) → Slid (slide row s)
+unfolding slide
+slide_slid row [] = settled_slid (row []) (few 0) (slid_few 0)
+slide_slid row (b ∷ rest) = settled_slid (row (b ∷ rest)) (slide row rest) (slide_slid row rest)

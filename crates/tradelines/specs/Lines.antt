@@ -34,7 +34,7 @@ pub data Line : Type 0 where
   reads : String → ℤ → Line
 
 -- elements as a deck writes them: a literal, a free filler and a fixed one with the place of its string
-abbrev lit : String → PatternElement
+abbrev pub lit : String → PatternElement
 lit w = value (literal (bytes w))
 
 abbrev filler : ℕ → PatternElement
