@@ -7,13 +7,14 @@ use Rattle.base.specs.Edition.{Edition}
 use Rattle.validation.specs.Deck.{accepted}
 use Rattle.machine.specs.Costs.{StepWithin}
 use Rattle.scanning.specs.Call.{no_answer, trials_in}
+use Rattle.scanning.specs.Costs.{TrialsWithin}
 use Rattle.values.specs.Conversion.{longest_string}
 use Rattle.encoding.specs.Buffers.{state_size}
 use Rattle.calls.specs.Calls.{ReadCalled, read_call, Buffers, StepCalled, step_call, RunReturned, returned, run_call}
 use Rattle.calls.specs.DemandLaws.{accepted_tabled, demand3}
 use Rattle.encoding.specs.Conditions.{current-limit, current_wide, current_size}
-use Rattle.calls.specs.Costs.{size_given}
-use Rattle.calls.specs.CostLaws.{call_within, after_within}
+use Rattle.calls.specs.Costs.{steps_size, size_given}
+use Rattle.calls.specs.CostLaws.{call_within, call_most, after_within}
 use Rattle.calls.specs.Demands.{Linked, observed_run, observed_step, steps_tried}
 use Rattle.encoding.specs.Numerals.{bias}
 use Rattle.calls.specs.Promises.{HoldsProgram, ReadPromise, Keeps, StepPromise, RunPromise}
@@ -49,6 +50,7 @@ module _ (e : Edition) (limit : e.limit < bias) (wide : longest_string ≤ e.lim
           list = λ h. demand3 e limit wide size table input b h (observed_step b back) back.left (refl, does, refl);
           trials =
               subst (λ (x : StepCalled). StepWithin (size_given e table input b) (trials_in x.answer)) (sym does) (call_within e table input b);
+          most = subst (λ (x : StepCalled). TrialsWithin (steps_size 1) (trials_in x.answer)) (sym does) (call_most e table input b);
         }
 
     run_promised : (count : ℕ) (back : RunReturned) → (0 < count → length b.state ≡ state_size)

@@ -65,6 +65,8 @@ pub record StepPromise (e : Edition) (table input : List ℕ) (b : Buffers) (bac
   -- W8.2 "the trials carried in the answer never exceed m × (n + 1), for success and failure alike, forward and back": m and n of the scan that the
   -- step is given; 0 where it holds none. (Stopped or turned down it has 0 as well: silent.)
   pub trials : StepWithin (size_given e table input b) (trials_in back.answer)
+  -- W8.2 of whatever it is given: at most 20 × 1,025, so k steps one by one have at most k × 20 × 1,025
+  pub most : TrialsWithin (steps_size 1) (trials_in back.answer)
 
 -- the run call, given a count of steps and the buffers b
 pub record RunPromise (e : Edition) (table input : List ℕ) (count : ℕ) (b : Buffers) (back : RunReturned) : Type 0 where
