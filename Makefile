@@ -43,12 +43,12 @@ install: build
 	install -m 755 $(program) $(to)/bin/strigol
 	install -m 755 $(register) $(to)/bin/strigol-register
 	install -m 644 man/strigol-register.1 $(to)/share/man/man1/strigol-register.1
-	install -m 644 docs/TABLE.md docs/REGISTER.md $(to)/share/doc/strigol
+	install -m 644 docs/TABLE.md docs/REGISTER.md docs/WINDOW.md $(to)/share/doc/strigol
 	sed 's,@PREFIX@,$(PREFIX),' include/strigol.pc >$(to)/lib/pkgconfig/strigol.pc
 
 uninstall:
 	rm -f $(to)/include/strigol.h $(to)/lib/libstrigol.a $(to)/lib/pkgconfig/strigol.pc $(to)/bin/strigol $(to)/bin/strigol-register
-	rm -f $(to)/share/man/man1/strigol-register.1 $(to)/share/doc/strigol/TABLE.md $(to)/share/doc/strigol/REGISTER.md
+	rm -f $(to)/share/man/man1/strigol-register.1 $(to)/share/doc/strigol/TABLE.md $(to)/share/doc/strigol/REGISTER.md $(to)/share/doc/strigol/WINDOW.md
 	rmdir $(to)/share/doc/strigol 2>/dev/null || true
 
 # what tools and tests made; the folders crates/*/out are rt's, and hold what is proved

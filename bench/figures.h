@@ -17,17 +17,25 @@ static inline double now(clockid_t clock)
     return (double)t.tv_sec * 1e9 + (double)t.tv_nsec;
 }
 
-/* Sets `best` to the nanoseconds of processor time that what is called takes once: the best of so many rounds of so many calls. */
-#define BEST_NS(best, rounds, calls, ...)                                                                                                      \
+/* Sets `best` to the nanoseconds by a clock that what is called takes once: the best of so many rounds of so many calls. */
+#define BEST_BY(clock, best, rounds, calls, ...)                                                                                               \
     do {                                                                                                                                       \
         best = 1e18;                                                                                                                           \
         for (int round_ = 0; round_ < (rounds); round_++) {                                                                                    \
-            double from_ = now(CLOCK_PROCESS_CPUTIME_ID), time_;                                                                               \
+            double from_ = now(clock), time_;                                                                                                  \
             for (int call_ = 0; call_ < (calls); call_++) { __VA_ARGS__; }                                                                     \
-            time_ = (now(CLOCK_PROCESS_CPUTIME_ID) - from_) / (calls);                                                                         \
+            time_ = (now(clock) - from_) / (calls);                                                                                            \
             if (time_ < best) best = time_;                                                                                                    \
         }                                                                                                                                      \
     } while (0)
+
+/* The same in processor time. */
+#define BEST_NS(best, rounds, calls, ...) BEST_BY(CLOCK_PROCESS_CPUTIME_ID, best, rounds, calls, __VA_ARGS__)
+
+static inline void keep_less(double *best, double time)
+{
+    if (time < *best) *best = time;
+}
 
 static inline void give_up(const char *what)
 {
@@ -104,11 +112,11 @@ __attribute__((optimize("no-tree-vectorize"), unused)) static uint32_t pass_over
 __attribute__((optimize("O3"), unused)) static uint32_t vector_pass_over(const uint8_t *bytes, size_t n) { PASS }
 #undef PASS
 
-/* A table of calls beside passes over so many bytes: its head, and a call's row with all times in microseconds. */
-static inline void show_passes_head(const char *what, size_t bytes, int most)
+/* A table of calls beside passes over so many bytes: its head, and a call's row with all times in the head's unit. */
+static inline void show_passes_head(const char *what, const char *unit, size_t bytes, int most)
 {
-    printf("| %s | us | one pass over %s bytes, us | in passes; demanded: at most %d | | a pass in vectors, us | in passes |\n", what,
-           whole(bytes), most);
+    printf("| %s | %s | one pass over %s bytes, %s | in passes; demanded: at most %d | | a pass in vectors, %s | in passes |\n", what, unit,
+           whole(bytes), unit, most, unit);
     printf("|---|---|---|---|---|---|---|\n");
 }
 

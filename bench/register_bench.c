@@ -190,7 +190,7 @@ static double time_one(void (*one)(void))
 /* A call on each of the registers in one currency, of so many lines. */
 static void beside_passes(const char *what, void (*one)(void), int count, int most)
 {
-    show_passes_head(what, sizeof buffer, most);
+    show_passes_head(what, "us", sizeof buffer, most);
     for (size_t i = 0; i < IN_ONE_CURRENCY; i++) {
         make_lines(i);
         fill(count);

@@ -107,11 +107,6 @@ static void copy_next(void)
     sink = copied[LENGTH];
 }
 
-static void keep_less(double *best, double time)
-{
-    if (time < *best) *best = time;
-}
-
 /* Nanoseconds of a call with so many replacements, in strings of 1,000 bytes. */
 static double time_call(const struct row *r, uint32_t times)
 {

@@ -72,7 +72,7 @@ static double time_one(void (*one)(void))
 /* Steps of decks, given as a name and a file each, on the bytes lent, beside passes over these bytes. */
 static void beside_passes(const char *what, int count, char **decks)
 {
-    show_passes_head(what, sizeof table + stored, MOST_PASSES);
+    show_passes_head(what, "us", sizeof table + stored, MOST_PASSES);
     for (int i = 0; i + 1 < count; i += 2) {
         read_deck(decks[i + 1]);
         double ours = time_one(step), plain = time_one(pass), vectors = time_one(vector_pass);

@@ -15,10 +15,14 @@
        strigol_register_line(buffer, sizeof buffer, place, line, &length);
        strigol_register_report(buffer, sizeof buffer, report, sizeof report, &length);
 
+   The last 32 prices of a grain and currency can be watched in a window, one call a price:
+
+       uint32_t number = strigol_window_take(window, sizeof window, price, summary);           all zeros at first; count, lowest, highest, sum
+
    What the caller must ensure, since no call can find it out:
    - A pointer is not NULL, not even with length 0, and what it points at is as long as the length says. Two buffers lent to one call don't
-     overlap. State, answer, result and the line handed out have their fixed sizes. A buffer may be longer than it need be; the bytes past its
-     size stay.
+     overlap. State, answer, result, summary and the line handed out have their fixed sizes. A buffer may be longer than it need be; the bytes
+     past its size stay.
    - There is stack enough: 1.2 MB for strigol_read, 60 KB for the others.
 
    What holds then of every call:
@@ -26,7 +30,8 @@
      0 is success.
    - It keeps nothing, allocates nothing, prints nothing. All it knows is lent by the caller; one table may serve many runs at once, each
      with its own store, state and output, in threads of their own.
-   - The numbers are those of documents 01 and 02, the layouts those of docs/TABLE.md and docs/REGISTER.md, installed under share/doc/strigol. */
+   - The numbers are those of documents 01 and 02, the layouts those of docs/TABLE.md, docs/REGISTER.md and docs/WINDOW.md, installed under
+     share/doc/strigol. */
 #ifndef STRIGOL_H
 #define STRIGOL_H
 
@@ -34,9 +39,9 @@
 #include <stddef.h>
 #include <stdint.h>
 
-/* State, answer, result and line are arrays of a fixed size, lent by the address of their first number. The compiler tells an array that is too
-   short: in C by a warning (so build with -Werror), in C++ by an error. Behind a pointer it can't see how many numbers there are; there the
-   caller must know. */
+/* State, answer, result, line and summary are arrays of a fixed size, lent by the address of their first number. The compiler tells an array that
+   is too short: in C by a warning (so build with -Werror), in C++ by an error. Behind a pointer it can't see how many numbers there are; there
+   the caller must know. */
 #ifdef __cplusplus
 #define STRIGOL_CHECK(fact, words) static_assert(fact, words)
 template <typename number, size_t size> struct strigol_lent {
@@ -56,7 +61,7 @@ extern "C" {
 #endif
 
 /* The numbers that a call gives, and the documents' words for each. 1 to 12 refuse a deck, 13 to 16 (and 2) turn a step down, 17 to 21 stop
-   it, 22 to 24 turn a scan call down, 14, 21, 25 to 27 and 29 a call of the register. 28 is given by none.
+   it, 22 to 24 turn a scan call down, 14, 21, 25 to 27 and 29 a call of the register, 14 and 25 one of the window. 28 is given by none.
 
    1, 2           strigol_read leaves the table as it was.
    3 to 12        strigol_read leaves a table of zeros, which every step turns down by 13.
@@ -64,7 +69,8 @@ extern "C" {
    17 to 21       strigol_step sets the state's status to stopped and changes nothing else.
    14, 29         strigol_register_open changes nothing. Until it has given 0, the other calls on that register give 14.
    14, 25 to 27   strigol_register_offer changes nothing. strigol_register_line gives 14 with the empty line.
-   14, 21         strigol_register_report puts nothing, and sets the length to 0. */
+   14, 21         strigol_register_report puts nothing, and sets the length to 0.
+   14, 25         strigol_window_take changes nothing, and like strigol_window_ask, which gives 14 alone, it answers four zeros. */
 #define STRIGOL_NUMBER_LIST(X)                                                                                                                 \
     X(STRIGOL_DECK_TOO_LONG, 1, "the deck exceeds 32,768 bytes")                                                                               \
     X(STRIGOL_TABLE_TOO_SMALL, 2, "the table has under 28,672 bytes")                                                                          \
@@ -84,7 +90,7 @@ extern "C" {
     X(STRIGOL_BAD_TABLE, 13, "the table breaks its written rules")                                                                             \
     X(STRIGOL_BAD_STORE, 14,                                                                                                                   \
       "the store is under 32,832 bytes, a length exceeds 1,024, or a byte behind it isn't zero; or the register's buffer is under 8,192 "     \
-      "bytes or against its written rules, or the register isn't opened")                                                                      \
+      "bytes or against its written rules, or the register isn't opened; or the window is under 256 bytes or against its written rules")       \
     X(STRIGOL_BAD_STATE, 15,                                                                                                                   \
       "the state's statement, held return or their count, number, input place or output length is out of range; or RETURN or ENDROUTINE "     \
       "comes next with no return held, or EXECUTE with 16 held")                                                                              \
@@ -98,7 +104,7 @@ extern "C" {
     X(STRIGOL_TOO_MANY_ELEMENTS, 23, "the pattern has over 20 elements")                                                                       \
     X(STRIGOL_BAD_ELEMENT, 24,                                                                                                                 \
       "an element has no known kind, a fixed filler's length is negative, or a string isn't a part of the values lent")                       \
-    X(STRIGOL_BAD_LINE, 25, "a line breaks its form")                                                                                          \
+    X(STRIGOL_BAD_LINE, 25, "a line breaks its form; or a price given to the window is outside 1 to 999,999")                                  \
     X(STRIGOL_CONTRACT_HELD, 26, "its contract is held already")                                                                               \
     X(STRIGOL_REGISTER_FULL, 27, "256 lines are held")                                                                                         \
     X(STRIGOL_BAD_CURRENCY, 29, "the house currency given isn't three letters A-Z")
@@ -108,6 +114,8 @@ extern "C" {
 enum strigol_number { STRIGOL_OK = 0, STRIGOL_NUMBER_LIST(STRIGOL_NAMED) STRIGOL_NUMBERS_END, STRIGOL_LAST_NUMBER = STRIGOL_NUMBERS_END - 1 };
 #undef STRIGOL_NAMED
 #define STRIGOL_BAD_REGISTER STRIGOL_BAD_STORE /* 14, as the register's calls give it */
+#define STRIGOL_BAD_WINDOW STRIGOL_BAD_STORE   /* 14 and 25, as the window's calls give them */
+#define STRIGOL_BAD_PRICE STRIGOL_BAD_LINE
 
 /* The words for a number of the list; "" for any other. */
 #define STRIGOL_WORDS(name, number, words)                                                                                                     \
@@ -135,6 +143,12 @@ enum strigol_size {
     STRIGOL_LINE_SIZE = 32,       /* a line handed out, and zeros behind it */
     STRIGOL_CURRENCY_SIZE = 3,    /* a currency; a house currency of any other size gets 29 */
     STRIGOL_REPORT_MOST = 17152,  /* no report of a register is longer */
+
+    STRIGOL_WINDOW_SIZE = 256,    /* a smaller window gets 14 */
+    STRIGOL_PRICES_MOST = 32,     /* prices of a window */
+    STRIGOL_PRICE_SIZE = 8,       /* a price in a window, low byte first */
+    STRIGOL_PRICE_LIMIT = 999999, /* a price runs from 1 to this; any other gets 25 */
+    STRIGOL_SUMMARY_SIZE = 4,     /* uint64_t */
 
     STRIGOL_STRING_MOST = 1024, /* a string, a record, a reference of the scan call */
     STRIGOL_STRINGS = 32,       /* strings of a store */
@@ -192,6 +206,14 @@ enum strigol_outcome {
     STRIGOL_REFUSED = 3   /* a step was turned down by 2 or 13 to 16 */
 };
 
+/* The summary of a window: which number says what. All are 0 where no price is held, and with 14 and 25. */
+enum strigol_summary {
+    STRIGOL_PRICES_HELD = 0, /* how many prices are held */
+    STRIGOL_LOWEST = 1,      /* the lowest of them */
+    STRIGOL_HIGHEST = 2,     /* the highest */
+    STRIGOL_SUM = 3          /* their sum, at most 31,999,968 */
+};
+
 /* The kinds of elements lent to the scan call. */
 enum strigol_element {
     STRIGOL_STRING = 1, /* the values from the first number up to, without, the second */
@@ -205,6 +227,7 @@ STRIGOL_CHECK(STRIGOL_CELL_SIZE == 2 + STRIGOL_STRING_MOST, "a cell is a length 
 STRIGOL_CHECK(STRIGOL_NUMBERS_AT == STRIGOL_HELD_AT + STRIGOL_HELD_MOST, "the numbers follow the returns");
 STRIGOL_CHECK(STRIGOL_NUMBERS_AT + STRIGOL_NUMBERS <= STRIGOL_STATE_SIZE, "the numbers fit into a state");
 STRIGOL_CHECK(STRIGOL_LENGTHS_AT + STRIGOL_ELEMENTS_MOST == STRIGOL_ANSWER_SIZE, "an answer has a length for each element");
+STRIGOL_CHECK(STRIGOL_WINDOW_SIZE == STRIGOL_PRICES_MOST * STRIGOL_PRICE_SIZE, "a window is as many prices as it can hold");
 STRIGOL_CHECK(STRIGOL_STEPS_AT + STRIGOL_STEPS_MOST * STRIGOL_STEP_SIZE <= STRIGOL_TABLE_SIZE, "the steps fit into a table");
 STRIGOL_CHECK(STRIGOL_TABLE_SIZE + STRIGOL_STORE_SIZE == 61504, "what a step checks of table and store");
 
@@ -257,6 +280,16 @@ uint32_t strigol_register_line(const uint8_t *buffer, size_t buffer_len, uint64_
    many lines it has, the sum of their tonnes and that of tonnes times price, in cents. Byte 10 ends each of them. A register without a line has the
    report of 0 bytes. `length` is set to how many bytes were put, 0 with 14 and 21; the bytes of the output behind the report stay as they were. */
 uint32_t strigol_register_report(const uint8_t *buffer, size_t buffer_len, uint8_t *output, size_t output_len, uint32_t *length);
+
+/* The window holds the last 32 of the prices that it took, in cents per tonne, in order of arrival, in the first 256 bytes of a buffer, which is
+   checked each time; all zeros is the empty window. Keep one for each grain and currency that is watched. */
+
+/* Takes a price: 0, and `summary` is that of the prices held then; a 33rd pushes the first out. Or 14, or 25 for a price outside 1 to 999,999; then
+   nothing changes, and the summary is four zeros. */
+uint32_t strigol_window_take(uint8_t *window, size_t window_len, uint64_t price, STRIGOL_LENT(uint64_t, summary, STRIGOL_SUMMARY_SIZE));
+
+/* Asks: 0, and `summary` is that of the prices held, four zeros of an empty window; or 14 and four zeros. */
+uint32_t strigol_window_ask(const uint8_t *window, size_t window_len, STRIGOL_LENT(uint64_t, summary, STRIGOL_SUMMARY_SIZE));
 
 /* What stands in the buffers. The place of a string is 0 to 31 in order of first appearance in the deck, that of a number 0 to 31 in order of
    declaration. */

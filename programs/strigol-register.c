@@ -1,10 +1,12 @@
-/* strigol-register: a register of contract lines in a file, over the library's calls for it. What staff see of it is said in man/strigol-register.1.
+/* strigol-register: a register of contract lines in a file, and a window of its prices, over the library's calls for both. What staff see of it is
+   said in man/strigol-register.1.
 
        strigol-register FILE open CURRENCY
        strigol-register FILE add [--run] <LINES
        strigol-register FILE line PLACE
        strigol-register FILE list
        strigol-register FILE report
+       strigol-register FILE prices GRAIN CURRENCY
 
    FILE is the register's buffer just as the library leaves it; of what stands in it this program knows the size alone. FILE is never written
    into: a new one is written beside it and renamed over it. So whoever opens FILE finds a whole register, and a kill leaves the old or the new. */
@@ -30,11 +32,15 @@ enum { DONE = 0, DECLINED = 1, FAILED = 2 };
    print, and eight times what a register can hold; more would only be declined, and keep others waiting. */
 enum { MOST_INPUT = 1 << 16, MOST_SHOWN = 80, MOST_WAIT = 30 };
 
+/* Letters of a grain. */
+enum { GRAIN_SIZE = 2 };
+
 static const char usage[] = "usage: strigol-register FILE open CURRENCY\n"
                             "       strigol-register FILE add [--run] <LINES\n"
                             "       strigol-register FILE line PLACE\n"
                             "       strigol-register FILE list\n"
                             "       strigol-register FILE report\n"
+                            "       strigol-register FILE prices GRAIN CURRENCY\n"
                             "       strigol-register --help | --version\n";
 
 struct line { const uint8_t *at; size_t length; };
@@ -345,15 +351,17 @@ static size_t offer_all(uint8_t buffer[STRIGOL_REGISTER_SIZE])
     return taken;
 }
 
-/* Tells which lines were declined: the exit status. */
+/* Tells which lines were declined: the exit status. What the words of 25 say behind a semicolon isn't about lines. */
 static int tell(size_t taken)
 {
+    const char *words;
     struct line line;
     size_t from = 0, at, declined = 0;
     for (at = 0; next_line(&from, &line); at++) {
         if (numbers[at] == 0) continue;
         declined++;
-        fprintf(stderr, "strigol-register: line %zu: declined by %d: %s: ", at + 1, numbers[at], strigol_words(numbers[at]));
+        words = strigol_words(numbers[at]);
+        fprintf(stderr, "strigol-register: line %zu: declined by %d: %.*s: ", at + 1, numbers[at], (int)strcspn(words, ";"), words);
         show(line);
     }
     if (declined == 0) return DONE;
@@ -401,11 +409,25 @@ static int add_lines(const char *file, int whole)
     return status;
 }
 
-/* The line of a place goes to `text`, with byte 10: its length; 0 where no line stands. The register is known to be opened. */
-static size_t put_line(const uint8_t buffer[STRIGOL_REGISTER_SIZE], uint64_t place, uint8_t text[STRIGOL_LINE_SIZE + 1])
+/* The register is known to be opened, no report is longer than its text, and a line's price is in range, so no number but 0 is met; another would be
+   told. */
+static void require_done(const char *file, uint32_t number)
+{
+    if (number != STRIGOL_OK) give_up("%s: %s", file, strigol_words(number));
+}
+
+/* The line of a place goes to `line`: its length; 0 where no line stands. */
+static uint32_t hand_out(const char *file, const uint8_t buffer[STRIGOL_REGISTER_SIZE], uint64_t place, uint8_t line[STRIGOL_LINE_SIZE])
 {
     uint32_t length;
-    strigol_register_line(buffer, STRIGOL_REGISTER_SIZE, place, text, &length);
+    require_done(file, strigol_register_line(buffer, STRIGOL_REGISTER_SIZE, place, line, &length));
+    return length;
+}
+
+/* The line of a place goes to `text`, with byte 10: its length; 0 where no line stands. */
+static size_t put_line(const char *file, const uint8_t buffer[STRIGOL_REGISTER_SIZE], uint64_t place, uint8_t text[STRIGOL_LINE_SIZE + 1])
+{
+    uint32_t length = hand_out(file, buffer, place, text);
     if (length == 0) return 0;
     text[length] = '\n';
     return (size_t)length + 1;
@@ -429,7 +451,7 @@ static int print_line(const char *file, const char *argument)
     struct stat as;
     size_t length;
     load(file, 0, buffer, &as);
-    length = put_line(buffer, place, text);
+    length = put_line(file, buffer, place, text);
     print(text, length);
     if (length > 0) return DONE;
     fprintf(stderr, "strigol-register: %s: no line stands at place %s\n", file, argument);
@@ -444,21 +466,69 @@ static int print_list(const char *file)
     struct stat as;
     size_t length = 0, n = 1;
     load(file, 0, buffer, &as);
-    for (place = 0; place < STRIGOL_LINES_MOST && n > 0; place++) length += n = put_line(buffer, place, text + length);
+    for (place = 0; place < STRIGOL_LINES_MOST && n > 0; place++) length += n = put_line(file, buffer, place, text + length);
     print(text, length);
     return DONE;
 }
 
-/* The register is known to be opened, and no report is longer than the text, so no number but 0 is met; another would be told. */
 static int print_report(const char *file)
 {
     uint8_t buffer[STRIGOL_REGISTER_SIZE], text[STRIGOL_REPORT_MOST];
-    uint32_t length, number;
+    uint32_t length;
     struct stat as;
     load(file, 0, buffer, &as);
-    number = strigol_register_report(buffer, sizeof buffer, text, sizeof text, &length);
-    if (number != STRIGOL_OK) give_up("%s: %s", file, strigol_words(number));
+    require_done(file, strigol_register_report(buffer, sizeof buffer, text, sizeof text, &length));
     print(text, length);
+    return DONE;
+}
+
+/* Whether an argument is so many letters A-Z. */
+static int is_letters(const char *argument, size_t count)
+{
+    size_t n = 0;
+    while (argument[n] >= 'A' && argument[n] <= 'Z') n++;
+    return n == count && argument[n] == 0;
+}
+
+static const char *behind_comma(const char *at) { return strchr(at, ',') + 1; }
+
+/* The price of a line that is handed out, if it is of this grain and currency; else 0, which is no price. Such a line is contract, grain, tonnes,
+   price and currency, parted by commas, and zeros behind them. */
+static uint64_t price_in(const char *line, const char *grain, const char *currency)
+{
+    const char *its_grain = behind_comma(line), *its_price = behind_comma(behind_comma(its_grain)), *its_currency = behind_comma(its_price);
+    if (strncmp(its_grain, grain, GRAIN_SIZE) != 0 || strcmp(its_currency, currency) != 0) return 0;
+    return strtoull(its_price, NULL, 10);
+}
+
+/* Gives the prices of all lines of a grain and currency, in order of arrival, to a window that is empty at first, and asks for its summary. */
+static void watch_prices(const char *file, const uint8_t buffer[STRIGOL_REGISTER_SIZE], const char *grain, const char *currency,
+                         uint64_t summary[STRIGOL_SUMMARY_SIZE])
+{
+    uint8_t line[STRIGOL_LINE_SIZE], window[STRIGOL_WINDOW_SIZE] = {0};
+    uint64_t place, price;
+    for (place = 0; place < STRIGOL_LINES_MOST && hand_out(file, buffer, place, line) > 0; place++) {
+        price = price_in((const char *)line, grain, currency);
+        if (price != 0) require_done(file, strigol_window_take(window, sizeof window, price, summary));
+    }
+    require_done(file, strigol_window_ask(window, sizeof window, summary));
+}
+
+/* Grain and currency are judged before the file is looked at. */
+static int print_prices(const char *file, const char *grain, const char *currency)
+{
+    uint8_t buffer[STRIGOL_REGISTER_SIZE];
+    uint64_t summary[STRIGOL_SUMMARY_SIZE];
+    char text[128]; /* more than four numbers of 64 bits need */
+    struct stat as;
+    int length;
+    if (!is_letters(grain, GRAIN_SIZE)) give_up("%s: no grain; a grain is two letters A-Z", grain);
+    if (!is_letters(currency, STRIGOL_CURRENCY_SIZE)) give_up("%s: no currency; a currency is three letters A-Z", currency);
+    load(file, 0, buffer, &as);
+    watch_prices(file, buffer, grain, currency, summary);
+    length = snprintf(text, sizeof text, "PRICES,%s,%s,%ju,%ju,%ju,%ju\n", grain, currency, (uintmax_t)summary[STRIGOL_PRICES_HELD],
+                      (uintmax_t)summary[STRIGOL_LOWEST], (uintmax_t)summary[STRIGOL_HIGHEST], (uintmax_t)summary[STRIGOL_SUM]);
+    print((const uint8_t *)text, (size_t)length);
     return DONE;
 }
 
@@ -494,6 +564,7 @@ int main(int argc, char **argv)
         if (argc == 4 && is(argv[2], "line")) return print_line(argv[1], argv[3]);
         if (argc == 3 && is(argv[2], "list")) return print_list(argv[1]);
         if (argc == 3 && is(argv[2], "report")) return print_report(argv[1]);
+        if (argc == 5 && is(argv[2], "prices")) return print_prices(argv[1], argv[3], argv[4]);
     }
     fputs(usage, stderr);
     return FAILED;

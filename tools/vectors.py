@@ -1,10 +1,11 @@
 #!/usr/bin/env python3
-"""Writes the computed facts of crates/vectors and crates/register_vectors from tests/vectors, and the lists of what they unfold, the first to
-crates/computing."""
+"""Writes the computed facts of crates/vectors, crates/register_vectors and crates/window_vectors from tests/vectors, and the lists of what they
+unfold, the first to crates/computing."""
 import glob, os, re, textwrap
 
 ROOT = os.path.dirname(os.path.dirname(os.path.abspath(__file__)))
 SPECS = os.path.join(ROOT, "crates/vectors/specs")
+COMPUTING_SPECS = os.path.join(ROOT, "crates/computing/specs")
 DEFINITIONS = ["base", "scanning", "cards", "syntax", "validation", "values", "machine", "encoding", "calls"]
 PER_FILE = 20
 REGISTER_SPECS = os.path.join(ROOT, "crates/register_vectors/specs")
@@ -12,6 +13,8 @@ REGISTER_DEFINITIONS = ["base", "cards", "values", "register"]
 LONG = 100  # bytes of a line that is written out
 REGISTER_SIZE = 8192
 HOUSE = b"EUR"
+WINDOW_SPECS = os.path.join(ROOT, "crates/window_vectors/specs")
+WINDOW_DEFINITIONS = ["base", "cards", "encoding", "window"]
 FIVE = re.compile(rb"[A-Z0-9]{1,8},[A-Z]{2},[1-9][0-9]{0,4},[1-9][0-9]{0,5},[A-Z]{3}")  # good from wish 10 on
 
 
@@ -48,6 +51,16 @@ def unfoldable(crates):
 def write(name, lines, specs=SPECS):
     with open(os.path.join(specs, name + ".antt"), "w") as f:
         f.write("\n".join(lines) + "\n")
+
+
+def write_everything(module, crates, specs):
+    """The module that unfolds every definition of these crates."""
+    write(module, [
+        "-- A fact about closed values is proved by computing, with every definition unfolded: `unfolding everything`. Assumes nothing.",
+        "",
+        "unfoldable pub everything : Unit {0}",
+        "unfolding",
+    ] + ["    " + n for n in unfoldable(crates)] + ["everything = tt"], specs)
 
 
 def line_of(data):
@@ -197,12 +210,7 @@ def scripts(module, folder, opened, comment, names, computed):
 
 
 def register():
-    write("Everything", [
-        "-- A fact about closed values is proved by computing, with every definition unfolded: `unfolding everything`. Assumes nothing.",
-        "",
-        "unfoldable pub everything : Unit {0}",
-        "unfolding",
-    ] + ["    " + n for n in unfoldable(REGISTER_DEFINITIONS)] + ["everything = tt"], REGISTER_SPECS)
+    write_everything("Everything", REGISTER_DEFINITIONS, REGISTER_SPECS)
     before = (
         "They are from before wish 10, and so is what is said of each. Here the register is opened with EUR at every start, so a line handed out has "
         "its currency behind it, and an offer of five fields of good form is left out.")
@@ -212,6 +220,29 @@ def register():
             ["answers", "times"])
     scripts("Currencies", "register10", False, "First the lines that were offered to each register of wishes 2 to 9.",
             ["opening", "offer", "get", "report", "old", "reset", "number", "handed", "reported"], ["answers", "times"])
+
+
+def window():
+    """The scripts of the window as facts."""
+    write_everything("Everything", WINDOW_DEFINITIONS, WINDOW_SPECS)
+    computed = ["price_back", "asking_back", "answers_by_prices", "answers_by_bytes"]
+    facts = []
+    for path in sorted(glob.glob(os.path.join(ROOT, "tests/vectors/window13/*.window"))):
+        script = open(path).read().splitlines()
+        commands = [command for command in script if not command.startswith("#")]
+        answers = open(path.removesuffix(".window") + ".answers").read().splitlines()
+        assert len(commands) == len(answers)
+        entries = [f"({command}, {' ∷ '.join(answer.split())} ∷ [])" for command, answer in zip(commands, answers)]
+        name = os.path.basename(path).removesuffix(".window").replace("-", "_")
+        facts += [""] + ["--" + line[1:] for line in script if line.startswith("#")]
+        facts += [f"{name} : Answered (", "    " + "\n    ∷ ".join(entries + ["[])"])]
+        facts += ["unfolding everything " + " ".join(computed), f"{name} = (refl, refl)"]
+    write("Scripts", [
+        "-- The scripts of tests/vectors/window13 with their answers, by the prices and by the bytes. Assumes nothing.",
+        "use Rattle.std.specs.Prelude.{[], ◌∷◌, refl}",
+        "use Rattle.window_vectors.specs.Everything.{everything}",
+        f"use Rattle.window_vectors.specs.Script.{{{', '.join(['price', 'ask', 'size', 'reset', 'Answered'] + computed)}}}",
+    ] + facts, WINDOW_SPECS)
 
 
 def decks(folder, prefix):
@@ -234,13 +265,7 @@ def decks(folder, prefix):
 
 
 def main():
-    with open(os.path.join(ROOT, "crates/computing/specs/Lib.antt"), "w") as f:
-        f.write("\n".join([
-            "-- A fact about closed values is proved by computing, with every definition unfolded: `unfolding everything`. Assumes nothing.",
-            "",
-            "unfoldable pub everything : Unit {0}",
-            "unfolding",
-        ] + ["    " + n for n in unfoldable(DEFINITIONS)] + ["everything = tt"]) + "\n")
+    write_everything("Lib", DEFINITIONS, COMPUTING_SPECS)
     for old in glob.glob(os.path.join(SPECS, "*Decks*.antt")) + glob.glob(os.path.join(SPECS, "Scans*.antt")):
         os.remove(old)
     modules = ["Scans", "Trace"] + decks("decks", "")
@@ -257,6 +282,7 @@ def main():
     write("Lib", ["-- The definitions answer the vectors, as computed facts: how an answer is written (Trace), decks (Decks.., Wish..Decks..), scans (Scans)."]
           + ["pub mod " + m for m in sorted(modules)])
     register()
+    window()
 
 
 main()

@@ -129,11 +129,26 @@ static void registers(void)
     show(offer("B2,BA,35,1875"), "offer: a line where 256 are held");
 }
 
+static void windows(void)
+{
+    static uint8_t window[STRIGOL_WINDOW_SIZE];
+    uint64_t summary[STRIGOL_SUMMARY_SIZE];
+    show(strigol_window_take(window, sizeof window - 1, 2150, summary), "take: a window of 255 bytes");
+    show(strigol_window_take(window, sizeof window - 1, 0, summary), "take: price 0, and a window of 255 bytes");
+    show(strigol_window_take(window, sizeof window, 0, summary), "take: price 0");
+    show(strigol_window_take(window, sizeof window, 1000000, summary), "take: price 1,000,000");
+    strigol_window_take(window, sizeof window, 2150, summary);
+    strigol_window_take(window, sizeof window, 1875, summary);
+    memset(window, 0, STRIGOL_PRICE_SIZE);
+    show(strigol_window_ask(window, sizeof window, summary), "ask: a window whose first price is wiped out, and the second isn't");
+}
+
 int main(void)
 {
     decks_and_tables();
     stores_and_states();
     scans();
     registers();
+    windows();
     return 0;
 }

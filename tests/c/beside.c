@@ -109,6 +109,26 @@ static uint32_t right_report(struct lent *l)
     return oracle_register_report(COPY(l, REGISTER), COPY(l, OUTPUT), COPIED_32(l, LENGTH));
 }
 
+static uint32_t call_take(struct lent *l)
+{
+    return strigol_window_take(LENT(l, WINDOW), l->price, NUMBERS_64(l, SUMMARY));
+}
+
+static uint32_t right_take(struct lent *l)
+{
+    return oracle_window_take(COPY(l, WINDOW), l->price, COPIED_64(l, SUMMARY));
+}
+
+static uint32_t call_ask(struct lent *l)
+{
+    return strigol_window_ask(LENT(l, WINDOW), NUMBERS_64(l, SUMMARY));
+}
+
+static uint32_t right_ask(struct lent *l)
+{
+    return oracle_window_ask(COPY(l, WINDOW), COPIED_64(l, SUMMARY));
+}
+
 #define BIT(n) (1u << (n))
 #define FROM_TO(from, to) (BIT((to) + 1) - BIT(from))
 #define STEP_NUMBERS (BIT(0) | BIT(2) | FROM_TO(13, 21))
@@ -124,6 +144,8 @@ struct call_beside calls[CALLS] = {
     {"strigol_register_offer", call_offer, right_offer, NULL, BIT(0) | BIT(14) | FROM_TO(25, 27), BIT(REGISTER) | BIT(OFFERED), {0}},
     {"strigol_register_line", call_hand_out, right_hand_out, NULL, BIT(0) | BIT(14), BIT(REGISTER) | BIT(LINE) | BIT(LENGTH), {0}},
     {"strigol_register_report", call_report, right_report, NULL, BIT(0) | BIT(14) | BIT(21), BIT(REGISTER) | BIT(OUTPUT) | BIT(LENGTH), {0}},
+    {"strigol_window_take", call_take, right_take, NULL, BIT(0) | BIT(14) | BIT(25), BIT(WINDOW) | BIT(SUMMARY), {0}},
+    {"strigol_window_ask", call_ask, right_ask, NULL, BIT(0) | BIT(14), BIT(WINDOW) | BIT(SUMMARY), {0}},
 };
 
 void begin_test(const char *name, struct lent *l)
@@ -200,6 +222,7 @@ void lay_small(struct lent *l, enum side side)
     lay_empty(l, side, RESULT, STRIGOL_RESULT_SIZE * sizeof(uint64_t));
     lay_empty(l, side, LINE, STRIGOL_LINE_SIZE);
     lay_empty(l, side, LENGTH, sizeof(uint32_t));
+    lay_summary(l, side);
 }
 
 void lay_deck(struct lent *l, enum side side, const struct deck *deck, size_t table_len)
@@ -246,6 +269,18 @@ void lay_house(struct lent *l, enum side side, const struct line *house)
 void lay_line(struct lent *l, enum side side, const struct line *line)
 {
     lay(&l->b[OFFERED], side, line->bytes, line->length, line->length);
+}
+
+void lay_window(struct lent *l, enum side side, const uint8_t bytes[STRIGOL_WINDOW_SIZE], size_t length)
+{
+    doing.deck = NULL;
+    lay(&l->b[WINDOW], side, bytes, STRIGOL_WINDOW_SIZE, length);
+    lay_summary(l, side);
+}
+
+void lay_summary(struct lent *l, enum side side)
+{
+    lay_empty(l, side, SUMMARY, STRIGOL_SUMMARY_SIZE * sizeof(uint64_t));
 }
 
 void lay_again(struct buffer *b, enum side side, size_t length)

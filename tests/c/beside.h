@@ -8,7 +8,10 @@
 #include "fences.h"
 #include "lines.h"
 #include "oracle.h"
+#include "prices.h"
 #include "strigol.h"
+
+#define SIZE(list) (sizeof(list) / sizeof((list)[0]))
 
 /* A lent buffer, and its copy, as the numbers that it holds. */
 #define NUMBERS_64(l, which) ((uint64_t *)(void *)(l)->b[which].at)
@@ -18,7 +21,7 @@
 
 /* A call, by what is lent: of one that answers trials, the most that it may make where it gives 0 (W8.2); the numbers that documents 01 and 02 let
    it give, as bits, the buffers lent to it, as bits, and how often each number was right so far. */
-enum call { READ, START, STEP, RUN, SCAN, OPEN, OFFER, HAND_OUT, REPORT, CALLS };
+enum call { READ, START, STEP, RUN, SCAN, OPEN, OFFER, HAND_OUT, REPORT, TAKE, ASK, CALLS };
 struct call_beside {
     const char *name;
     uint32_t (*call)(struct lent *), (*right)(struct lent *), (*most)(struct lent *);
@@ -70,6 +73,10 @@ void lay_scan(struct lent *l, enum side side, const struct scan *s);
 void lay_register(struct lent *l, enum side side, const uint8_t bytes[STRIGOL_REGISTER_SIZE], size_t length);
 void lay_house(struct lent *l, enum side side, const struct line *house);
 void lay_line(struct lent *l, enum side side, const struct line *line);
+
+/* A window of this length, its further bytes being others, and a summary with nothing in it yet; such a summary alone. */
+void lay_window(struct lent *l, enum side side, const uint8_t bytes[STRIGOL_WINDOW_SIZE], size_t length);
+void lay_summary(struct lent *l, enum side side);
 
 /* Lays the bytes of a buffer again, in another length: the bytes that fit, and others behind them. */
 void lay_again(struct buffer *b, enum side side, size_t length);

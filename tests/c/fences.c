@@ -16,14 +16,15 @@ enum { FENCE = 65536, MOST_SHOWN = 5, MOST_LENT = 8, UNWRITTEN = 0x5a };
 
 const char *const buffer_name[BUFFERS] = {"deck",     "table",          "card",         "store",           "state",  "input",
                                           "output",   "answer",         "result",       "reference",       "values", "elements",
-                                          "register", "house currency", "line offered", "line handed out", "length"};
+                                          "register", "house currency", "line offered", "line handed out", "length", "window",
+                                          "summary"};
 
 static const size_t room[BUFFERS] = {
     [DECK] = DECK_ROOM, [TABLE] = STRIGOL_TABLE_SIZE + PAGE, [CARD] = sizeof(uint32_t), [STORE] = STRIGOL_STORE_SIZE + PAGE,
     [STATE] = STRIGOL_STATE_SIZE * sizeof(uint64_t), [INPUT] = INPUT_ROOM, [OUTPUT] = STRIGOL_REPORT_MOST + PAGE,
     [ANSWER] = STRIGOL_ANSWER_SIZE * sizeof(uint32_t), [RESULT] = STRIGOL_RESULT_SIZE * sizeof(uint64_t), [REFERENCE] = PAGE,
     [VALUES] = PAGE, [ELEMENTS] = PAGE, [REGISTER] = 2 * STRIGOL_REGISTER_SIZE, [HOUSE] = PAGE, [OFFERED] = 3 * PAGE,
-    [LINE] = STRIGOL_LINE_SIZE, [LENGTH] = sizeof(uint32_t)};
+    [LINE] = STRIGOL_LINE_SIZE, [LENGTH] = sizeof(uint32_t), [WINDOW] = PAGE, [SUMMARY] = STRIGOL_SUMMARY_SIZE * sizeof(uint64_t)};
 
 const char *test = "a test";
 _Thread_local struct doing doing = {"nothing", "no call", 0, NULL};

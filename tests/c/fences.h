@@ -12,7 +12,8 @@ enum { PAGE = 4096 };
 
 /* All that is lent to the calls. */
 enum which {
-    DECK, TABLE, CARD, STORE, STATE, INPUT, OUTPUT, ANSWER, RESULT, REFERENCE, VALUES, ELEMENTS, REGISTER, HOUSE, OFFERED, LINE, LENGTH, BUFFERS
+    DECK, TABLE, CARD, STORE, STATE, INPUT, OUTPUT, ANSWER, RESULT, REFERENCE, VALUES, ELEMENTS, REGISTER, HOUSE, OFFERED, LINE, LENGTH,
+    WINDOW, SUMMARY, BUFFERS
 };
 extern const char *const buffer_name[BUFFERS];
 
@@ -20,8 +21,8 @@ extern const char *const buffer_name[BUFFERS];
    all bytes between the fences is for the oracle to work on. */
 struct buffer { uint8_t *from, *to, *at, *copy; size_t length; };
 
-/* The buffers of one run, how many steps are lent to it, and the place of a line asked for. */
-struct lent { struct buffer b[BUFFERS]; uint32_t count; uint64_t place; };
+/* The buffers of one run, how many steps are lent to it, the place of a line asked for, and the price given to a window. */
+struct lent { struct buffer b[BUFFERS]; uint32_t count; uint64_t place, price; };
 
 /* What is being done, for messages: the test; its part, the call and the seed, and the deck at hand if there is one. */
 struct doing { const char *part, *call; uint64_t seed; const struct deck *deck; };

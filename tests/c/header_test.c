@@ -1,5 +1,6 @@
 /* Tries what include/strigol.h says beyond the calls themselves: its sizes and places beside those of the oracle, the words for the numbers, and
-   the functions that read and write the buffers' layouts, on document 01's deck LOTS and line P1; and its example of a register, with the report. */
+   the functions that read and write the buffers' layouts, on document 01's deck LOTS and line P1; its example of a register, with the report;
+   and a window's numbers and places. */
 #include "decks.h"
 #include "oracle.h"
 #include "strigol.h"
@@ -19,6 +20,11 @@ SAME(STRIGOL_LINE_SIZE, LINE_SIZE);
 SAME(STRIGOL_LINES_MOST, MOST_LINES);
 SAME(STRIGOL_CURRENCY_SIZE, CURRENCY_SIZE);
 SAME(STRIGOL_REPORT_MOST, MOST_REPORT);
+SAME(STRIGOL_WINDOW_SIZE, WINDOW_SIZE);
+SAME(STRIGOL_PRICES_MOST, MOST_PRICES);
+SAME(STRIGOL_PRICE_SIZE, PRICE_SIZE);
+SAME(STRIGOL_PRICE_LIMIT, PRICE_LIMIT);
+SAME(STRIGOL_SUMMARY_SIZE, SUMMARY_SIZE);
 SAME(STRIGOL_STRING_MOST, MOST_STRING);
 SAME(STRIGOL_STRINGS, MOST_STRINGS);
 SAME(STRIGOL_CELL_SIZE, CELL_SIZE);
@@ -49,12 +55,18 @@ SAME(STRIGOL_OUTCOME, OUTCOME_AT);
 SAME(STRIGOL_BY, BY_AT);
 SAME(STRIGOL_DONE, DONE_AT);
 SAME(STRIGOL_NOTED, NOTED_AT);
+SAME(STRIGOL_PRICES_HELD, COUNT_AT);
+SAME(STRIGOL_LOWEST, LOWEST_AT);
+SAME(STRIGOL_HIGHEST, HIGHEST_AT);
+SAME(STRIGOL_SUM, SUM_AT);
 SAME(STRIGOL_STRING, SCAN_STRING);
 SAME(STRIGOL_FIXED, SCAN_FIXED);
 SAME(STRIGOL_FREE, SCAN_FREE);
 SAME(STRIGOL_BAD_REGISTER, 14);
+SAME(STRIGOL_BAD_WINDOW, 14);
 SAME(STRIGOL_OUTPUT_FULL, 21);
 SAME(STRIGOL_BAD_LINE, 25);
+SAME(STRIGOL_BAD_PRICE, 25);
 SAME(STRIGOL_CONTRACT_HELD, 26);
 SAME(STRIGOL_REGISTER_FULL, 27);
 SAME(STRIGOL_BAD_CURRENCY, 29);
@@ -76,8 +88,10 @@ static void words(void)
     for (uint32_t i = 1; i <= STRIGOL_LAST_NUMBER; i++) expect((strigol_words(i)[0] != 0) == (i != 28), "a number without words, or words of 28");
     expect(strcmp(strigol_words(STRIGOL_ZERO_DIVISOR), "a divisor is zero") == 0, "the words of 18");
     expect(strstr(strigol_words(STRIGOL_BAD_REGISTER), "under 8,192 bytes or against its written rules") != NULL, "the words of 14");
+    expect(strstr(strigol_words(STRIGOL_BAD_WINDOW), "the window is under 256 bytes or against its written rules") != NULL, "those of a window");
     expect(strstr(strigol_words(STRIGOL_OUTPUT_FULL), "the output can't hold the register's report") != NULL, "the words of 21");
-    expect(strcmp(strigol_words(STRIGOL_BAD_LINE), "a line breaks its form") == 0, "the words of 25");
+    expect(strcmp(strigol_words(STRIGOL_BAD_LINE), "a line breaks its form; or a price given to the window is outside 1 to 999,999") == 0,
+           "the words of 25");
     expect(strcmp(strigol_words(STRIGOL_CONTRACT_HELD), "its contract is held already") == 0, "the words of 26");
     expect(strcmp(strigol_words(STRIGOL_REGISTER_FULL), "256 lines are held") == 0, "the words of 27");
     expect(strcmp(strigol_words(STRIGOL_BAD_CURRENCY), "the house currency given isn't three letters A-Z") == 0, "the words of 29");
@@ -162,12 +176,38 @@ static void register_calls(void)
     expect(strigol_register_report(buffer, 1, output, sizeof output, &length) == STRIGOL_BAD_REGISTER && length == 0, "a short buffer is reported");
 }
 
+static int is_summary(const uint64_t *summary, uint64_t held, uint64_t lowest, uint64_t highest, uint64_t sum)
+{
+    return summary[STRIGOL_PRICES_HELD] == held && summary[STRIGOL_LOWEST] == lowest && summary[STRIGOL_HIGHEST] == highest &&
+           summary[STRIGOL_SUM] == sum;
+}
+
+static void window_calls(void)
+{
+    uint8_t window[STRIGOL_WINDOW_SIZE] = {0};
+    uint64_t summary[STRIGOL_SUMMARY_SIZE];
+    const size_t n = sizeof window;
+    expect(strigol_window_ask(window, n, summary) == STRIGOL_OK && is_summary(summary, 0, 0, 0, 0), "zeros aren't the empty window");
+    expect(strigol_window_take(window, n, 19950, summary) == STRIGOL_OK && is_summary(summary, 1, 19950, 19950, 19950), "a price isn't taken");
+    expect(window[0] == 19950 % 256 && window[1] == 19950 / 256 && window[STRIGOL_PRICE_SIZE] == 0, "the low byte isn't first");
+    expect(strigol_window_take(window, n, 1000000, summary) == STRIGOL_BAD_PRICE && is_summary(summary, 0, 0, 0, 0), "1,000,000 is taken");
+    expect(strigol_window_take(window, n, 0, summary) == STRIGOL_BAD_PRICE && is_summary(summary, 0, 0, 0, 0), "0 is taken");
+    expect(strigol_window_ask(window, n, summary) == STRIGOL_OK && is_summary(summary, 1, 19950, 19950, 19950), "the price isn't held");
+    for (int i = 0; i < STRIGOL_PRICES_MOST; i++) strigol_window_take(window, n, STRIGOL_PRICE_LIMIT, summary);
+    expect(is_summary(summary, STRIGOL_PRICES_MOST, STRIGOL_PRICE_LIMIT, STRIGOL_PRICE_LIMIT, 31999968), "the first of 33 prices hasn't left");
+    expect(strigol_window_take(window, n - 1, 0, summary) == STRIGOL_BAD_WINDOW && is_summary(summary, 0, 0, 0, 0), "a short window is taken");
+    expect(strigol_window_ask(window, n - 1, summary) == STRIGOL_BAD_WINDOW && is_summary(summary, 0, 0, 0, 0), "a short window is asked");
+    window[n - 1] = 1;
+    expect(strigol_window_ask(window, n, summary) == STRIGOL_BAD_WINDOW && is_summary(summary, 0, 0, 0, 0), "2^56 is held");
+}
+
 int main(void)
 {
     words();
     elements();
     buffers();
     register_calls();
+    window_calls();
     printf("header test: %d failures\n", failures);
     return failures != 0;
 }

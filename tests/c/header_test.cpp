@@ -15,6 +15,9 @@ int main()
     const uint8_t contract[] = {'A', ',', 'W', 'H', ',', '1', ',', '1'}, house[] = {'E', 'U', 'R'};
     std::vector<uint8_t> kept(STRIGOL_REGISTER_SIZE), handed(STRIGOL_LINE_SIZE, 1), report(STRIGOL_REPORT_MOST);
     uint8_t line[STRIGOL_LINE_SIZE], longer_line[STRIGOL_LINE_SIZE + 1];
+    std::vector<uint8_t> window(STRIGOL_WINDOW_SIZE);
+    std::vector<uint64_t> asked(STRIGOL_SUMMARY_SIZE, 1);
+    uint64_t summary[STRIGOL_SUMMARY_SIZE], longer_summary[STRIGOL_SUMMARY_SIZE + 1];
     int failures = 0;
     failures += strigol_start(store.data(), store.size(), state.data()) != STRIGOL_OK || store[0] != 0 || strigol_number_in(state.data(), 31) != 0;
     failures += strigol_start(store.data(), store.size(), longer) != STRIGOL_OK || strigol_number_in(longer, 0) != 0;
@@ -29,6 +32,10 @@ int main()
     failures += strigol_register_line(kept.data(), kept.size(), 0, longer_line, &length) != STRIGOL_OK || length != 12 || longer_line[31] != 0;
     failures += strigol_register_line(kept.data(), kept.size(), 1, handed.data(), &length) != STRIGOL_OK || length != 0 || handed[31] != 0;
     failures += strigol_register_report(kept.data(), kept.size(), report.data(), report.size(), &length) != STRIGOL_OK || length != 29;
+    failures += strigol_window_take(window.data(), window.size(), 120, summary) != STRIGOL_OK || summary[STRIGOL_SUM] != 120 || window[0] != 120;
+    failures += strigol_window_take(window.data(), window.size(), 35, longer_summary) != STRIGOL_OK || longer_summary[STRIGOL_LOWEST] != 35;
+    failures += strigol_window_ask(window.data(), window.size(), asked.data()) != STRIGOL_OK || asked[STRIGOL_PRICES_HELD] != 2;
+    failures += strigol_window_take(window.data(), window.size(), 0, asked.data()) != STRIGOL_BAD_PRICE || asked[STRIGOL_HIGHEST] != 0;
     std::printf("header test in C++: %d failures\n", failures);
     return failures != 0;
 }

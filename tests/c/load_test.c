@@ -4,7 +4,7 @@
    steps        1,000,000 steps over many random decks, each step judged by the oracle
    faults       truncated, oversized, empty, damaged and random buffers to every call: its number must be one of the call's own, and every byte
                 between the fences is what the oracle leaves
-   far          lengths and places past 2^32
+   far          lengths, places and prices past 2^32
    interleaved  two runs, step by step in turn, leave what each leaves alone
    threads      two threads at once on one table do, in every call, what one does alone
    stacks       how much stack each call takes at most, on decks made to take much; it must be what docs/GATEWAY.md says, or less
@@ -225,6 +225,19 @@ static void fault_register(struct draws *d, enum side side)
     make_right(&first, REPORT);
 }
 
+/* A window of any count of prices, sound or damaged, of any size. */
+static void fault_window(struct draws *d, enum side side)
+{
+    uint8_t bytes[STRIGOL_WINDOW_SIZE];
+    random_window(d, bytes);
+    if (draw(d, 3) == 0) damage_window(d, bytes);
+    lay_window(&first, side, bytes, draw(d, 4) ? sizeof bytes : a_length(d, sizeof bytes, PAGE));
+    first.price = random_price(d);
+    make_right(&first, ASK);
+    make_right(&first, TAKE);
+    make_right(&first, ASK);
+}
+
 static void faults_on(enum side side)
 {
     doing.part = side == BEHIND ? "faults, fences behind" : "faults, fences before";
@@ -236,6 +249,7 @@ static void faults_on(enum side side)
         fault_step(&d, side);
         fault_scan(&d, side);
         fault_register(&d, side);
+        fault_window(&d, side);
     }
 }
 
@@ -248,7 +262,7 @@ static void faults(void)
     printf("load test: faults: %ld damaged tables keep the rules\n", kept_damaged);
 }
 
-/* Lengths and places past 2^32 */
+/* Lengths, places and prices past 2^32 */
 
 static const uint64_t far = (uint64_t)1 << 32;
 static uint8_t far_table[STRIGOL_TABLE_SIZE], far_store[STRIGOL_STORE_SIZE], far_output[100];
@@ -345,6 +359,24 @@ static void far_register(uint8_t *long_one)
     if (number != STRIGOL_BAD_CURRENCY) fail("number %u, not 29, for a house currency of over 2^32 bytes", number);
 }
 
+/* A window's buffer of over 2^32 bytes, and prices past 2^32. */
+static void far_window(uint8_t *long_one)
+{
+    uint64_t summary[STRIGOL_SUMMARY_SIZE];
+    uint32_t number;
+    doing.call = "strigol_window_take";
+    memset(long_one, 0, STRIGOL_WINDOW_SIZE);
+    number = strigol_window_take(long_one, far + 100, 7, summary);
+    if (number != 0 || summary[STRIGOL_SUM] != 7) fail("number %u, not 0, for a window of over 2^32 bytes", number);
+    for (uint64_t price = far; price != 0; price <<= 1) {
+        number = strigol_window_take(long_one, far + 100, price + 7, summary);
+        if (number != STRIGOL_BAD_PRICE) fail("number %u, not 25, for price %llu", number, (unsigned long long)price + 7);
+    }
+    doing.call = "strigol_window_ask";
+    number = strigol_window_ask(long_one, far + 100, summary);
+    if (number != 0 || summary[STRIGOL_PRICES_HELD] != 1) fail("number %u, not 0, for a window of over 2^32 bytes", number);
+}
+
 static void far_away(void)
 {
     size_t pages = (size_t)far + 16 * PAGE;
@@ -361,8 +393,9 @@ static void far_away(void)
     far_step(long_one, far + 12, far + 6, far_output, sizeof far_output, 1);
     far_step((const uint8_t *)"A\nXYZ\n", 6, 2, long_one, far + 50, far + 3);
     far_register(long_one);
+    far_window(long_one);
     munmap(long_one, pages);
-    printf("load test: far: buffers and places past 2^32\n");
+    printf("load test: far: buffers, places and prices past 2^32\n");
 }
 
 /* One run beside another */
@@ -499,8 +532,22 @@ static uint64_t register_job(struct lent *l, enum side side, struct draws *d, ui
     return mixed_buffer(all, l, REGISTER);
 }
 
-/* All calls: the deck is read into a table of the run's own, then come steps and a run on the table shared, a scan, and a register. Gives what was
-   given and left, as one number. */
+/* A window of the job's own, given some prices, and asked. */
+static uint64_t window_job(struct lent *l, enum side side, struct draws *d, uint64_t all)
+{
+    uint8_t bytes[STRIGOL_WINDOW_SIZE];
+    random_window(d, bytes);
+    lay_window(l, side, bytes, sizeof bytes);
+    for (int i = 0; i < 4; i++) {
+        l->price = random_price(d);
+        all = mixed_buffer(all * 31 + make(l, TAKE), l, SUMMARY);
+    }
+    all = mixed_buffer(all * 31 + make(l, ASK), l, SUMMARY);
+    return mixed_buffer(all, l, WINDOW);
+}
+
+/* All calls: the deck is read into a table of the run's own, then come steps and a run on the table shared, a scan, a register, and a window. Gives
+   what was given and left, as one number. */
 static uint64_t do_job(struct lent *l, const struct job *job, enum side side)
 {
     uint8_t input[INPUT_ROOM];
@@ -521,7 +568,8 @@ static uint64_t do_job(struct lent *l, const struct job *job, enum side side)
     random_scan(&d, &s);
     lay_scan(l, side, &s);
     all = all * 31 + make(l, SCAN);
-    return register_job(l, side, &d, mixed_buffer(all, l, ANSWER));
+    all = register_job(l, side, &d, mixed_buffer(all, l, ANSWER));
+    return window_job(l, side, &d, all);
 }
 
 static struct job jobs[2 * PAIRS];
@@ -668,7 +716,17 @@ static void probe_register(struct draws *d)
     probe_stack(REPORT, &first, "a random register");
 }
 
-/* Random decks, their steps and runs, scans and registers. */
+static void probe_window(struct draws *d)
+{
+    uint8_t bytes[STRIGOL_WINDOW_SIZE];
+    random_window(d, bytes);
+    lay_window(&first, BEHIND, bytes, sizeof bytes);
+    first.price = random_price(d);
+    probe_stack(TAKE, &first, "a random window");
+    probe_stack(ASK, &first, "a random window");
+}
+
+/* Random decks, their steps and runs, scans, registers and windows. */
 static void probe_random(uint64_t seed)
 {
     static struct deck deck;
@@ -688,6 +746,7 @@ static void probe_random(uint64_t seed)
     lay_scan(&first, BEHIND, &s);
     probe_stack(SCAN, &first, "a random scan");
     probe_register(&d);
+    probe_window(&d);
 }
 
 static void show_stacks(const char *on)

@@ -29,8 +29,6 @@ enum {
     SCRIPT_ROOM = 65536, BUFFER_ROOM = 2 * STRIGOL_REGISTER_SIZE, OUTPUT_ROOM = STRIGOL_REPORT_MOST + PAGE
 };
 
-#define SIZE(list) (sizeof(list) / sizeof((list)[0]))
-
 static struct lent lent;
 
 static void show_bytes(enum which which)

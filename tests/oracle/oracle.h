@@ -1,6 +1,6 @@
-/* A second reader and interpreter of STRIGOL decks, and a second register of contract lines, to test the calls against. They follow documents 01
-   and 02 sentence by sentence; the sentences' numbers (C1, Q3, W2.4, ..) are those of docs/PAPER.md. They say what is right and take no care to be
-   fast. */
+/* A second reader and interpreter of STRIGOL decks, a second register of contract lines and a second window of prices, to test the calls against.
+   They follow documents 01 and 02 sentence by sentence; the sentences' numbers (C1, Q3, W2.4, ..) are those of docs/PAPER.md. They say what is right
+   and take no care to be fast. */
 #ifndef ORACLE_H
 #define ORACLE_H
 
@@ -12,7 +12,8 @@ enum {
     MOST_ROW = 20, MOST_ELEMENTS = 1024, MOST_ITEMS = 1024, MOST_LITERALS = 4096, MOST_DEPTH = 16, MOST_NAME = 8,
     MOST_STRING = 1024, MOST_HELD = 16, MOST_WAITING = 64, LIMIT = 8388607,
     TABLE_SIZE = 28672, STORE_SIZE = 32832, CELL_SIZE = 1026, STATE_SIZE = 64, ANSWER_SIZE = 24, RESULT_SIZE = 4,
-    REGISTER_SIZE = 8192, MOST_LINES = 256, LINE_SIZE = 32, CURRENCY_SIZE = 3
+    REGISTER_SIZE = 8192, MOST_LINES = 256, LINE_SIZE = 32, CURRENCY_SIZE = 3, PRICE_LIMIT = 999999,
+    WINDOW_SIZE = 256, MOST_PRICES = 32, SUMMARY_SIZE = 4
 };
 
 /* The longest line is ZZZZZZZZ,ZZ,99999,999999,ZZZ, the longest TOTAL line TOTAL,ZZZ,256,25599744,25599718400256, and byte 10 ends each. No report is
@@ -23,7 +24,8 @@ enum {
 };
 
 /* The layouts of docs/TABLE.md: the table's counts and regions, its rows and cells; places in a state, an answer and a result; a row lent to the
-   scan call. That of docs/REGISTER.md: the slots of a register, behind its header. */
+   scan call. That of docs/REGISTER.md: the slots of a register, behind its header. That of docs/WINDOW.md: a price in a window. Places in a window's
+   summary. */
 enum {
     COUNTS_AT = 2, COUNTS_END = 14, STEPS_AT = 64, ELEMENTS_AT = 6208, ITEMS_AT = 14400, LITERALS_AT = 22592, LITERALS_END = 26688,
     ROW_SIZE = 24, CARD_AT = 2, SUCCESS_AT = 4, FAILURE_AT = 6, CELL = 8,
@@ -31,7 +33,9 @@ enum {
     SPLIT_AT = 0, START_AT, TRIALS_AT, NOTES_AT, LENGTHS_AT,
     OUTCOME_AT = 0, BY_AT, DONE_AT, NOTED_AT,
     SCAN_ROW = 12, SCAN_FIRST_AT = 4, SCAN_SECOND_AT = 8,
-    SLOTS_AT = 1024, SLOT_SIZE = 28
+    SLOTS_AT = 1024, SLOT_SIZE = 28,
+    PRICE_SIZE = 8,
+    COUNT_AT = 0, LOWEST_AT, HIGHEST_AT, SUM_AT
 };
 
 /* The kinds of a table's cells. */
@@ -157,5 +161,9 @@ uint32_t oracle_register_open(uint8_t *buffer, size_t buffer_len, const uint8_t 
 uint32_t oracle_register_offer(uint8_t *buffer, size_t buffer_len, const uint8_t *line, size_t line_len);
 uint32_t oracle_register_line(const uint8_t *buffer, size_t buffer_len, uint64_t place, uint8_t *line, uint32_t *length);
 uint32_t oracle_register_report(const uint8_t *buffer, size_t buffer_len, uint8_t *output, size_t output_len, uint32_t *length);
+
+/* window.c: the window's calls. */
+uint32_t oracle_window_take(uint8_t *window, size_t window_len, uint64_t price, uint64_t *summary);
+uint32_t oracle_window_ask(const uint8_t *window, size_t window_len, uint64_t *summary);
 
 #endif

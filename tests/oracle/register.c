@@ -7,7 +7,7 @@
 #include <stdlib.h>
 #include <string.h>
 
-enum { MOST_CONTRACT = 8, GRAIN = 2, MOST_TONNES = 99999, MOST_PRICE = 999999, OLD_FIELDS = 4, FIELDS = 5 };
+enum { MOST_CONTRACT = 8, GRAIN = 2, MOST_TONNES = 99999, OLD_FIELDS = 4, FIELDS = 5 };
 
 /* A line of good form, and what its fields say. */
 struct record {
@@ -76,7 +76,7 @@ static int parse(const uint8_t *line, size_t n, struct record *r)
     int fields = cut(line, n, f);
     if (fields < OLD_FIELDS || !is_contract(f[0]) || !are_letters(f[1], GRAIN)) return 0;
     r->tonnes = number_in(f[2], MOST_TONNES);
-    r->price = number_in(f[3], MOST_PRICE);
+    r->price = number_in(f[3], PRICE_LIMIT);
     if (r->tonnes == 0 || r->price == 0) return 0;
     if (fields == FIELDS && !are_letters(f[4], CURRENCY_SIZE)) return 0;
     if (fields == FIELDS) memcpy(r->currency, f[4].at, CURRENCY_SIZE);

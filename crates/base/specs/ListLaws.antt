@@ -1,11 +1,11 @@
--- What the tests on lists tell of the lists, and stretches of a list. Assumes nothing.
-use Rattle.std.specs.Prelude.{Bool, true, false, ◌||◌, List, [], ◌∷◌, ◌++◌, ◌↔◌, ◌≡◌, refl, ℕ, zero, suc, ◌+◌, ◌-◌, ◌≤◌, ◌<◌, eqb, take, length, drop, get_or, replicate}
+-- What the tests on lists tell of the lists, what is kept of a list, and stretches of one. Assumes nothing.
+use Rattle.std.specs.Prelude.{Bool, true, false, ◌&&◌, ◌||◌, List, [], ◌∷◌, ◌++◌, ◌↔◌, ◌≡◌, refl, ℕ, zero, suc, ◌+◌, ◌-◌, ◌≤◌, ◌<◌, eqb, take, length, drop, get_or, replicate}
 use Rattle.std.proofs.lemmas.Bool.{false≢true}
-use Rattle.std.proofs.Math.Bool.{and-eq-true_iff}
+use Rattle.std.proofs.Math.Bool.{and-eq-true_iff, and_assoc}
 use Rattle.std.proofs.Common.{ap₂, subst, sym, ◌∙◌, ap, add-one, arith, length-take, length-drop, drop_of_length-le, take-append-drop, length-take-le, take_all, take-take, get_or-take, get_or-drop, drop-drop, drop-cons, eqb-true, eq-eqb, ne_eqb}
 use Rattle.std.proofs.Math.Nat.{min-le_left, min-le_right}
-use Rattle.base.specs.Choice.{both_pass, test_cases}
-use Rattle.base.specs.Lists.{same, begins, all, among, is_nil, keep}
+use Rattle.base.specs.Choice.{both_pass, both_true, test_cases}
+use Rattle.base.specs.Lists.{same, begins, is_zero, all, among, is_nil, keep}
 
 -- lists that pass the test are equal
 pub same_true : (xs ys : List ℕ) → same xs ys ≡ true → xs ≡ ys
@@ -60,13 +60,17 @@ pub all_end : (f : ℕ → Bool) (l : List ℕ) (i : ℕ) → length l ≤ i →
 unfolding all
 all_end f l i h = ap (all f) (drop_of_length-le l h)
 
--- a test that two lists pass is passed by one behind the other
-pub all_append : {A : Type 0} (f : A → Bool) (xs ys : List A) → all f xs ≡ true → all f ys ≡ true → all f (xs ++ ys) ≡ true
+-- a test of two lists, one behind the other, is a test of both
+pub all_both : {A : Type 0} (f : A → Bool) (xs ys : List A) → all f (xs ++ ys) ≡ (all f xs && all f ys)
 unfolding all
-all_append f [] ys h g = g
-all_append f (x ∷ xs) ys h g =
-    let both = (and-eq-true_iff (f x) (all f xs)).0 h in
-    both_pass both.0 (all_append f xs ys both.1 g)
+all_both f [] ys = refl
+all_both f (x ∷ xs) ys = ap (λ t. f x && t) (all_both f xs ys) ∙ sym (and_assoc (f x) (all f xs) (all f ys))
+
+pub all_append : {A : Type 0} (f : A → Bool) (xs ys : List A) → all f xs ≡ true → all f ys ≡ true → all f (xs ++ ys) ≡ true
+all_append f xs ys h g = all_both f xs ys ∙ both_pass h g
+
+pub all_behind : {A : Type 0} (f : A → Bool) (xs ys : List A) → all f (xs ++ ys) ≡ true → all f ys ≡ true
+all_behind f xs ys e = (both_true (all f xs) (all f ys) (sym (all_both f xs ys) ∙ e)).1
 
 -- what passes a test passes one that follows from it
 pub all_imply : {A : Type 0} (f g : A → Bool) → ((x : A) → f x ≡ true → g x ≡ true) → (xs : List A) → all f xs ≡ true → all g xs ≡ true
@@ -107,6 +111,25 @@ all_among f b (x ∷ xs) a e =
     test_cases (λ t. eqb b x ≡ t → (t || among b xs) ≡ true → f b ≡ true) (eqb b x)
     (λ is _ _. ap f (eqb-true b x is) ∙ both.0)
     (λ _ _ rest. all_among f b xs both.1 rest) refl e
+
+-- what is kept of two lists, and of one whose elements all pass
+pub keep_append : {A : Type 0} (f : A → Bool) (xs ys : List A) → keep f (xs ++ ys) ≡ keep f xs ++ keep f ys
+unfolding keep
+keep_append f [] ys = refl
+keep_append {A} f (x ∷ xs) ys =
+    let rest = keep_append f xs ys in
+    test_cases
+    (λ t.
+    ◌≡◌ {A = List A} (elim t [ true ↦ x ∷ keep f (xs ++ ys) | false ↦ keep f (xs ++ ys) ])
+    (elim t [ true ↦ x ∷ keep f xs | false ↦ keep f xs ] ++ keep f ys))
+    (f x) (λ _. ap (λ (l : List A). x ∷ l) rest) (λ _. rest)
+
+pub keep_all : {A : Type 0} (f : A → Bool) (xs : List A) → all f xs ≡ true → keep f xs ≡ xs
+unfolding keep all
+keep_all f [] a = refl
+keep_all {A} f (x ∷ xs) a =
+    let both = (and-eq-true_iff (f x) (all f xs)).0 a in
+    rw (keep, both.0) (ap (λ (l : List A). x ∷ l) (keep_all f xs both.1))
 
 -- where all pass a test, each place inside does; and so does any place where what is read behind the last passes too
 pub all_inside : {A : Type 0} (f : A → Bool) (l : List A) (d : A) → all f l ≡ true → (i : ℕ) → i < length l → f (get_or l i d) ≡ true
@@ -158,14 +181,14 @@ stretch_front n (suc k) (suc m) [] h = refl
 stretch_front n (suc k) (suc m) (x ∷ l) h = stretch_front n k m l (omega arith)
 
 -- a list of zeros alone
-pub zeros_are : (l : List ℕ) → all (λ b. eqb b 0) l ≡ true → l ≡ replicate (length l) 0
+pub zeros_are : (l : List ℕ) → all is_zero l ≡ true → l ≡ replicate (length l) 0
 unfolding all
 zeros_are [] e = refl
 zeros_are (x ∷ xs) e =
-    let h = (and-eq-true_iff (eqb x 0) (all (λ b. eqb b 0) xs)).0 e in
+    let h = (and-eq-true_iff (is_zero x) (all is_zero xs)).0 e in
     ap₂ {C = List ℕ} ◌∷◌ (eqb-true x 0 h.0) (zeros_are xs h.1)
 
-pub all-zeros : (n : ℕ) → all (λ b. eqb b 0) (replicate n 0) ≡ true
+pub all-zeros : (n : ℕ) → all is_zero (replicate n 0) ≡ true
 unfolding all
 all-zeros zero = refl
 all-zeros (suc n) = all-zeros n

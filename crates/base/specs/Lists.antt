@@ -12,6 +12,10 @@ same (x ∷ xs) (y ∷ ys) = eqb x y && same xs ys
 unfoldable pub begins : List ℕ → List ℕ → Bool
 begins xs ys = same (take (length xs) ys) xs
 
+-- the number is zero
+abbrev pub is_zero : ℕ → Bool
+is_zero n = eqb n 0
+
 -- x is among the elements
 unfoldable pub among : ℕ → List ℕ → Bool
 among x [] = false

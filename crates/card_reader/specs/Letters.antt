@@ -3,9 +3,10 @@ use Rattle.std.proofs.Math.Bool.{true, false}
 use Rattle.std.proofs.lemmas.Bool.{false≢true}
 use mathlib.Core.List.{List, [], ◌∷◌, ◌++◌}
 use Rattle.std.specs.Prelude.{◌≡◌, ℕ, suc, ◌+◌, ◌-◌, ◌≤◌, ◌<◌, take, drop, get_or}
-use Rattle.std.proofs.Common.{sym, ◌∙◌, zero-add, arith, take-append-drop, drop-drop}
+use Rattle.std.proofs.Common.{◌∙◌, arith, take-append-drop, drop-drop}
 use Rattle.std.proofs.Math.Path.{ap}
-use Rattle.std.proofs.Math.ListN.{length}
+use Rattle.std.proofs.Math.ListN.{length, length-append}
+use Rattle.base.specs.ListLaws.{keep_append}
 use Rattle.base.specs.Choice.{test_cases}
 use Rattle.base.specs.Lists.{keep}
 use Rattle.cards.specs.Bytes.{between, is_letter}
@@ -18,15 +19,8 @@ letters bs = length (keep is_letter bs)
 
 -- the letters of two parts
 pub letters-append : (xs ys : List ℕ) → letters (xs ++ ys) ≡ letters xs + letters ys
-unfolding letters keep
-letters-append [] ys = sym (zero-add (length (keep is_letter ys)))
-letters-append (x ∷ xs) ys =
-    let rest = letters-append xs ys in
-    test_cases
-    (λ t.
-    length {A = ℕ} (elim t [ true ↦ x ∷ keep is_letter (xs ++ ys) | false ↦ keep is_letter (xs ++ ys) ])
-    ≡ length {A = ℕ} (elim t [ true ↦ x ∷ keep is_letter xs | false ↦ keep is_letter xs ]) + length (keep is_letter ys))
-    (is_letter x) (λ _. omega (arith, rest)) (λ _. rest)
+unfolding letters
+letters-append xs ys = ap length (keep_append is_letter xs ys) ∙ length-append (keep is_letter xs) (keep is_letter ys)
 
 -- a byte is one letter or none
 module _ (b : ℕ) where

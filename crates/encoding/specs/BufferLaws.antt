@@ -11,8 +11,8 @@ use Rattle.std.proofs.Math.Dec.{eqb}
 use Rattle.std.proofs.Math.ListN.{length, take, drop, get_or, replicate, length-append, length-drop, take-append-drop}
 use Rattle.std.proofs.lemmas.List.{length-replicate, replicate-append-replicate}
 use Rattle.std.proofs.Math.Seq.{drop_at, length-take-le}
-use Rattle.base.specs.ListLaws.{all-zeros, zeros_are}
-use Rattle.base.specs.Lists.{all}
+use Rattle.base.specs.ListLaws.{all-zeros, zeros_are, all_behind}
+use Rattle.base.specs.Lists.{all, is_zero}
 use Rattle.machine.specs.Bounds.{set_everywhere}
 use Rattle.machine.specs.State.{most_strings}
 use Rattle.values.specs.Conversion.{longest_string}
@@ -68,11 +68,6 @@ pub cell_keeps_lem : (store : List ℕ) (at : ℕ) → CellTold store at → cel
 unfolding cell_keeps longest_string
 cell_keeps_lem store at c = rw (lt-ltb _ _ c.low, le-leb _ _ c.short, c.zeros)
 
-all-behind : (s t : List ℕ) → all (λ b. eqb b 0) (s ++ t) ≡ true → all (λ b. eqb b 0) t ≡ true
-unfolding all
-all-behind [] t e = e
-all-behind (x ∷ s) t e = all-behind s t ((and-eq-true_iff (eqb x 0) (all (λ b. eqb b 0) (s ++ t))).0 e).1
-
 -- the two bytes of a length
 pub number_two : (store : List ℕ) (at : ℕ) → numeral_at 2 store at ≡ get_or store at 0 + 256 * get_or store (at + 1) 0
 unfolding numeral_at
@@ -109,7 +104,7 @@ module _ (store : List ℕ) (at : ℕ) (c : CellTold store at) (fits : at + 1026
       ∙ take-add (m - n) (1024 - m) x
       ∙ ap (λ (l : List ℕ). take (m - n) x ++ take (1024 - m) l) (drop-drop (m - n) (at + (2 + n)) store ∙ ap (λ (j : ℕ). drop j store) place) in
       let all-zero : all (λ b. eqb b 0) (take (1024 - m) (drop (at + (2 + m)) store)) ≡ true =
-      all-behind (take (m - n) x) (take (1024 - m) (drop (at + (2 + m)) store)) (ap (all (λ b. eqb b 0)) (sym cut) ∙ c.zeros) in
+      all_behind is_zero (take (m - n) x) (take (1024 - m) (drop (at + (2 + m)) store)) (ap (all (λ b. eqb b 0)) (sym cut) ∙ c.zeros) in
       zeros_are _ all-zero
       ∙ ap (λ (j : ℕ). replicate j 0) (length-take-le (1024 - m) (drop (at + (2 + m)) store) (simp length-drop (omega arith)))
 

@@ -1,10 +1,14 @@
--- Bytes that stand at a place of a list, and what is read there: a number in bytes is read back as the number, and an integer kept as a
--- number as the integer. Assumes nothing.
-use Rattle.std.specs.Prelude.{true, false, List, [], ◌∷◌, ◌++◌, map, ◌≡◌, refl, ℕ, zero, suc, ◌+◌, ◌-◌, ◌/◌, ◌%◌, ◌^◌, ◌≤◌, ◌<◌, ltb, ℤ, pos, negsuc, nat_abs, length, take, drop, get_or}
-use Rattle.std.proofs.Common.{append_assoc, sym, ◌∙◌, ap, ap₂, subst, add-zero, pow-suc, arith, get_or-drop, drop-drop, ltb-true, ltb-false, lt-ltb, le-ltb, le-leb}
+-- Bytes that stand at a place of a list, and what is read there: a number in bytes is read back as the number, written again as those bytes, and an
+-- integer kept as a number as the integer. Assumes nothing.
+use Rattle.std.specs.Prelude.{true, false, ◌&&◌, List, [], ◌∷◌, ◌++◌, map, ◌≡◌, refl, ℕ, zero, suc, ◌+◌, ◌*◌, ◌-◌, ◌/◌, ◌%◌, ◌^◌, ◌≤◌, ◌<◌, ltb, ℤ, pos, negsuc, nat_abs, length, take, drop, get_or}
+use Rattle.std.proofs.Common.{append_assoc, sym, ◌∙◌, ap, ap₂, subst, add-zero, pow-suc, arith, ne_eqb, get_or-drop, get_or-take, drop-drop, ltb-true, ltb-false, lt-ltb, le-ltb, le-leb}
+use Rattle.std.proofs.Math.Nat.{div-div-eq-div-mul}
 use Rattle.std.proofs.Math.Seq.{drop-append_seam, take-append_seam}
+use Rattle.std.specs.Int.{to_le_bytes, w64}
 use Rattle.base.specs.Choice.{cond_cases, test_cases}
 use Rattle.base.specs.Current.{current, limit}
+use Rattle.base.specs.ListLaws.{drop-next}
+use Rattle.base.specs.Lists.{is_zero, all}
 use Rattle.values.specs.Numbers.{is_in_range}
 use Rattle.encoding.specs.Numerals.{in_bytes, numeral_at, bias, biased, unbiased}
 
@@ -51,6 +55,58 @@ pub number_behind : (k : ℕ) (t : List ℕ) (at n : ℕ) (before after : List �
     → numeral_at k t (at + length before) ≡ n
 number_behind k t at n before after h s =
     number_read k t (at + length before) n h (stands_front t (in_bytes k n) after (stands_back t before (in_bytes k n ++ after) s))
+
+-- so many bytes are made of a number
+pub bytes_size : (k n : ℕ) → length (in_bytes k n) ≡ k
+unfolding in_bytes
+bytes_size zero n = refl
+bytes_size (suc k) n = ap suc (bytes_size k (n / 256))
+
+-- the kit's eight bytes of a number
+pub eight_bytes : (n : ℕ) → to_le_bytes w64 n ≡ in_bytes 8 n
+unfolding in_bytes
+eight_bytes n =
+    let two : n / 256 / 256 ≡ n / 65536 = div-div-eq-div-mul n 256 256 in
+    let three : n / 65536 / 256 ≡ n / 16777216 = div-div-eq-div-mul n 65536 256 in
+    let four : n / 16777216 / 256 ≡ n / 4294967296 = div-div-eq-div-mul n 16777216 256 in
+    let five : n / 4294967296 / 256 ≡ n / 1099511627776 = div-div-eq-div-mul n 4294967296 256 in
+    let six : n / 1099511627776 / 256 ≡ n / 281474976710656 = div-div-eq-div-mul n 1099511627776 256 in
+    let seven : n / 281474976710656 / 256 ≡ n / 72057594037927936 = div-div-eq-div-mul n 281474976710656 256 in
+    rw (two, three, four, five, six, seven) refl
+
+-- a number that is read in a list of bytes, written again, is the bytes that stand there
+pub number_written : (t : List ℕ) → ((i : ℕ) → get_or t i 0 < 256) → (k at : ℕ) → at + k ≤ length t
+    → in_bytes k (numeral_at k t at) ≡ take k (drop at t)
+unfolding in_bytes numeral_at
+number_written t bytes zero at h = refl
+number_written t bytes (suc k) at h =
+    let b = get_or t at 0 in
+    let m = numeral_at k t (at + 1) in
+    let small = bytes at in
+    let low : (b + 256 * m) % 256 ≡ b = omega arith in
+    let high : (b + 256 * m) / 256 ≡ m = omega arith in
+    rw (low, high, number_written t bytes k (at + 1) (omega arith)) (ap (take (suc k)) (sym (drop-next t at 0 (omega arith))))
+
+-- the first bytes of a list tell the numbers in them
+pub numeral-front : (k m : ℕ) (t : List ℕ) (at : ℕ) → at + k ≤ m → numeral_at k (take m t) at ≡ numeral_at k t at
+unfolding numeral_at
+numeral-front zero m t at h = refl
+numeral-front (suc k) m t at h = rw (get_or-take m t at 0 (omega arith), numeral-front k m t (at + 1) (omega arith)) refl
+
+-- a number is zero as all its bytes are
+zero_both : (b n : ℕ) → is_zero (b + 256 * n) ≡ (is_zero b && is_zero n)
+zero_both zero zero = refl
+zero_both zero (suc n) = ne_eqb (0 + 256 * suc n) 0 (λ z. omega (arith, z)) ∙ sym (ne_eqb (suc n) 0 (λ z. omega (arith, z)))
+zero_both (suc b) n =
+    ne_eqb (suc b + 256 * n) 0 (λ z. omega (arith, z)) ∙ ap (λ t. t && is_zero n) (sym (ne_eqb (suc b) 0 (λ z. omega (arith, z))))
+
+pub numeral-zero : (k : ℕ) (t : List ℕ) (at : ℕ) → at + k ≤ length t → is_zero (numeral_at k t at) ≡ all is_zero (take k (drop at t))
+unfolding numeral_at all
+numeral-zero zero t at h = refl
+numeral-zero (suc k) t at h =
+    zero_both (get_or t at 0) (numeral_at k t (at + 1))
+    ∙ ap (λ z. is_zero (get_or t at 0) && z) (numeral-zero k t (at + 1) (omega arith))
+    ∙ ap (λ (l : List ℕ). all is_zero (take (suc k) l)) (sym (drop-next t at 0 (omega arith)))
 
 -- an integer that is small enough is kept in 6 bytes
 pub biased_small : (z : ℤ) → nat_abs z < bias → biased z < 2 ^ 48

@@ -9,10 +9,12 @@ ghost use Rattle.calls.specs.Calls.{buffers};
 ghost use Rattle.calls.specs.Promises.{ReadPromise, StartPromise, StepPromise, RunPromise, read_back, start_back, step_back, run_back};
 ghost use Rattle.register.specs.Claims.{OpenPromise, OfferPromise, LinePromise, ReportPromise, buffer_back, line_back, report_back};
 ghost use Rattle.scanning.specs.Call.{ScanPromise};
+ghost use Rattle.window.specs.Claims.{AskPromise, TakePromise, ask_back, take_back};
 
 use encoding::STATE_SIZE;
 use register::LINE_SIZE;
 use scanning::ANSWER_SIZE;
+use window::SUMMARY_SIZE;
 
 // The deck call: 0 with the deck's program in the table; or a number and its card, the table zeroed, by 1 and 2 left as it was.
 #[unsafe(no_mangle)]
@@ -111,4 +113,24 @@ pub extern "C" fn strigol_register_report(buffer: &[u8], output: &mut [u8], leng
     ensures { ReportPromise buffer.now output.old (report_back result output.new length.new) }
 {
     register_report::strigol_register_report(buffer, output, length)
+}
+
+// Takes a price into the window.
+#[unsafe(no_mangle)]
+pub extern "C" fn strigol_window_take(
+    window: &mut [u8],
+    price: u64,
+    summary: &mut [u64; SUMMARY_SIZE],
+) -> u32
+    ensures { TakePromise window.old price (take_back result summary.new window.new) }
+{
+    window_calls::strigol_window_take(window, price, summary)
+}
+
+// Asks for the summary of the prices in the window.
+#[unsafe(no_mangle)]
+pub extern "C" fn strigol_window_ask(window: &[u8], summary: &mut [u64; SUMMARY_SIZE]) -> u32
+    ensures { AskPromise window.now (ask_back result summary.new) }
+{
+    window_calls::strigol_window_ask(window, summary)
 }

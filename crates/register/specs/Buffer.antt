@@ -1,8 +1,8 @@
 -- The register in the first 8,192 bytes of a buffer: a header of 1,024 bytes with the house currency, and a slot of 28 bytes for each of 256 lines.
 -- Header and slots have their text, then zeros; a slot without a line is all zeros, and so is the header of a register that isn't opened. W2.6 "such
 -- a buffer's layout is the team's, with written rules". The same in words: docs/REGISTER.md. Assumes nothing.
-use Rattle.std.specs.Prelude.{Bool, true, false, ◌&&◌, List, [], ◌∷◌, ◌++◌, ℕ, zero, suc, ◌*◌, ◌-◌, eqb, leb, length, take, drop, get_or, replicate}
-use Rattle.base.specs.Lists.{all}
+use Rattle.std.specs.Prelude.{Bool, true, false, ◌&&◌, List, [], ◌∷◌, ◌++◌, ℕ, zero, suc, ◌*◌, ◌-◌, leb, length, take, drop, get_or, replicate}
+use Rattle.base.specs.Lists.{all, is_zero}
 use Rattle.register.specs.Register.{Lines, Register, most_lines, differ, held_form, is_house}
 
 -- W2.5 "in the first 8,192 bytes of a lent buffer"
@@ -14,9 +14,6 @@ header_size = 1024
 
 abbrev pub slot_size : ℕ
 slot_size = 28
-
-abbrev pub is_zero : ℕ → Bool
-is_zero b = eqb b 0
 
 -- Writing: text with zeros behind it, the slots of lines one behind the other, and the register's bytes.
 unfoldable pub cell_of : (size : ℕ) (text : List ℕ) → List ℕ

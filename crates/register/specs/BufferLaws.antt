@@ -13,12 +13,11 @@ use Rattle.std.proofs.Math.Seq.{take_at, drop_at, length-take-le}
 use borrow.Author.Tests.{leb-true, le-leb, not-true}
 use Rattle.base.specs.Choice.{both_true, both_pass, test_cases}
 use Rattle.base.specs.ListLaws.{all-zeros, zeros_are}
-use Rattle.base.specs.Lists.{all, is_nil}
+use Rattle.base.specs.Lists.{all, is_nil, is_zero}
 use Rattle.register.specs.Buffer.{
   register_size,
   header_size,
   slot_size,
-  is_zero,
   cell_of,
   slots_of,
   register_image,

@@ -1,7 +1,7 @@
 -- Lists of which a part is kept, and lists changed element by element. Assumes nothing.
 use Rattle.std.specs.Prelude.{Bool, ◌&&◌}
 use Rattle.std.proofs.Math.Bool.{true, false, not}
-use mathlib.Core.List.{List, [], ◌∷◌, ◌++◌, map}
+use mathlib.Core.List.{List, [], ◌∷◌, map}
 use Rattle.std.proofs.Math.Path.{◌≡◌, refl, ap}
 use Rattle.std.proofs.Common.{ap₂}
 use Prim.Native.Nat.{suc, ◌≤◌}
@@ -11,26 +11,8 @@ use borrow.Author.Tests.{not-true}
 use Rattle.base.specs.Choice.{both_true, test_cases}
 use Rattle.base.specs.Lists.{all, keep}
 
--- What is kept of two lists, of one whose elements all pass, of one of which none does.
+-- What is kept of a list of which no element passes.
 module _ {A : Type 0} (p : A → Bool) where
-  pub keep_append : (xs ys : List A) → keep p (xs ++ ys) ≡ keep p xs ++ keep p ys
-  unfolding keep
-  keep_append [] ys = refl
-  keep_append (x ∷ xs) ys =
-      let rest = keep_append xs ys in
-      test_cases
-      (λ t.
-      ◌≡◌ {A = List A} (elim t [ true ↦ x ∷ keep p (xs ++ ys) | false ↦ keep p (xs ++ ys) ])
-      (elim t [ true ↦ x ∷ keep p xs | false ↦ keep p xs ] ++ keep p ys))
-      (p x) (λ _. ap (λ (l : List A). x ∷ l) rest) (λ _. rest)
-
-  pub keep_all : (xs : List A) → all p xs ≡ true → keep p xs ≡ xs
-  unfolding keep all
-  keep_all [] a = refl
-  keep_all (x ∷ xs) a =
-      let parts = both_true (p x) (all p xs) a in
-      rw (keep, parts.0) (ap (λ (l : List A). x ∷ l) (keep_all xs parts.1))
-
   pub keep_none : (xs : List A) → all (λ x. not (p x)) xs ≡ true → keep p xs ≡ []
   unfolding keep all
   keep_none [] a = refl

@@ -8,7 +8,7 @@ use Prim.Native.Nat.{ℕ, ◌*◌, ◌≤◌}
 use native.Mathlib.Omega.{arith}
 use Rattle.std.proofs.Math.ListN.{length, get_or, length-append}
 use Rattle.base.specs.Choice.{both_pass, both_true}
-use Rattle.base.specs.ListLaws.{all_append, all_imply, all_keep, same_iff}
+use Rattle.base.specs.ListLaws.{all_append, all_imply, all_keep, same_iff, keep_all, keep_append}
 use Rattle.base.specs.Lists.{all, any, keep, same, total}
 use Rattle.base.specs.Text.{bytes}
 use Rattle.cards.specs.ByteLaws.{within}
@@ -33,7 +33,7 @@ use Rattle.register.specs.LineLaws.{
   run-comma,
   run-whole,
 }
-use Rattle.register.specs.MapLaws.{all_map, keep_all, keep_append, keep_few, keep_none, map-agree}
+use Rattle.register.specs.MapLaws.{all_map, keep_few, keep_none, map-agree}
 use Rattle.register.specs.OrderLaws.{currencies-all, currencies-among, currencies_few, currencies_order}
 use Rattle.register.specs.Register.{Act, Lines, Register, fold, is_open, is_register, most_lines}
 use Rattle.register.specs.RegisterLaws.{fold_is, open_records, sound}

@@ -10,8 +10,8 @@ use Rattle.std.proofs.lemmas.List.{length-map}
 use Rattle.std.specs.Bool.{then_some}
 use Rattle.base.specs.Choice.{both_pass, both_true, test_cases}
 use Rattle.base.specs.ListLaws.{all_append, all_drop, all_inside, all_take, stretch_cut, stretch_front}
-use Rattle.base.specs.Lists.{all, is_nil}
-use Rattle.register.specs.Buffer.{header_size, buffer_keeps, slot_cell_keeps, header_in, is_zero, register_keeps_rules, lines_in, register_in, register_size, slot_size}
+use Rattle.base.specs.Lists.{all, is_nil, is_zero}
+use Rattle.register.specs.Buffer.{header_size, buffer_keeps, slot_cell_keeps, header_in, register_keeps_rules, lines_in, register_in, register_size, slot_size}
 use Rattle.register.specs.Buffer.{slots_in, slots_keep, text_in}
 use Rattle.register.specs.BufferLaws.{cell-form, cell-zeros, house_cases, house_size, kept, read_sound, sound_size, text_front, text_read}
 use Rattle.register.specs.CallLaws.{open_broken, open_keeps}

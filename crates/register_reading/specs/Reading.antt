@@ -1,9 +1,9 @@
 -- What the code says of a register in a buffer: the contracts of its lines as keys, and what reading it found. Assumes nothing.
 use Rattle.std.specs.Prelude.{Bool, true, false, cond, not, ◌&&◌, List, [], ◌∷◌, ◌++◌, map, ◌≡◌, ℕ, ◌+◌, ◌*◌, ◌-◌, ◌%◌, ◌≤◌, ◌<◌, length, drop, get_or}
 use Rattle.std.specs.Prelude.{Option, Some, None, Result, Ok, Err}
-use Rattle.base.specs.Lists.{all, among, is_nil}
+use Rattle.base.specs.Lists.{all, among, is_nil, is_zero}
 use Rattle.card_reader.specs.Keys.{key_of}
-use Rattle.register.specs.Buffer.{is_zero, header_size, slot_size, text_in, lines_in, register_in, slot_cell_keeps, slots_keep, buffer_keeps}
+use Rattle.register.specs.Buffer.{header_size, slot_size, text_in, lines_in, register_in, slot_cell_keeps, slots_keep, buffer_keeps}
 use Rattle.register.specs.Calls.{buffer_open}
 use Rattle.register.specs.Line.{contract_of}
 use Rattle.register.specs.declared.Refusal.{Refusal}

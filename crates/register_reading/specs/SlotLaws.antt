@@ -14,11 +14,11 @@ use Rattle.std.specs.List.{prefix_len, suffix_len}
 use Rattle.std.proofs.lemmas.List.{drop-append-le, get_or_push, length-map, length-reverse, reverse-append, reverse-reverse}
 use Rattle.base.specs.Choice.{both_true, both_pass, cond_cases, test_cases}
 use Rattle.base.specs.ListLaws.{all_append, all_end, all_inside, stretch_end}
-use Rattle.base.specs.Lists.{all, among}
+use Rattle.base.specs.Lists.{all, among, is_zero}
 use Rattle.cards.specs.Bytes.{is_name_byte}
 use Rattle.cards.specs.Cards.{without_blanks}
 use Rattle.card_reader.specs.Keys.{key_of}
-use Rattle.register.specs.Buffer.{is_zero, slot_size, text_in, lines_in, slot_cell_keeps, slots_keep}
+use Rattle.register.specs.Buffer.{slot_size, text_in, lines_in, slot_cell_keeps, slots_keep}
 use Rattle.register.specs.BufferLaws.{cell-form, cell-zeros, text_front, text_read}
 use Rattle.register.specs.Line.{contract_of, has_form}
 use Rattle.register.specs.LineLaws.{is_text, line_size_lem, line_text}

@@ -6,8 +6,8 @@
 ghost use Rattle.std.specs.Prelude.{false, fold, ◌==◌, ◌||◌, ◌≡◌, ◌*◌, ◌<◌, drop, length};
 ghost use Rattle.std.specs.List.{suffix_len};
 ghost use Rattle.arrayvec.specs.ArrayVec.{array_vec_len};
-ghost use Rattle.base.specs.Lists.{all};
-ghost use Rattle.register.specs.Buffer.{header_size, is_zero, lines_in, register_in, slot_size};
+ghost use Rattle.base.specs.Lists.{all, is_zero};
+ghost use Rattle.register.specs.Buffer.{header_size, lines_in, register_in, slot_size};
 ghost use Rattle.register.specs.Register.{line_at, most_lines};
 ghost use Rattle.register_reading.specs.Opened.{OpenedRead};
 ghost use Rattle.register_reading.specs.Reading.{SlotsHold, Marked, KeyNoted, KeysRead, Placed, RegisterRead, Trimmed};

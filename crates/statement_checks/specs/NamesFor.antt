@@ -1,25 +1,14 @@
 -- Names of one purpose, and what is made of those that entries mention, go through `++`. Assumes nothing.
-use Rattle.std.specs.Prelude.{Bool, true, false, ◌≡◌}
-use mathlib.Core.List.{List, [], ◌∷◌, ◌++◌, map, map-append}
-use Rattle.std.proofs.Math.Path.{refl, ap}
+use Rattle.std.specs.Prelude.{Bool, ◌≡◌}
+use mathlib.Core.List.{List, ◌++◌, map, map-append}
+use Rattle.std.proofs.Math.Path.{ap}
 use Rattle.std.proofs.Common.{ℕ, ◌∙◌}
-use Rattle.base.specs.Choice.{test_cases}
+use Rattle.base.specs.ListLaws.{keep_append}
 use Rattle.base.specs.Lists.{keep}
 use Rattle.validation.specs.Environment.{names_for}
 use Rattle.syntax.specs.Parsing.{Purpose, same_purpose, Mention}
 use Rattle.symbols.specs.Entries.{NameEntry, gather}
 use Rattle.symbols.specs.EntryLaws.{gather_append}
-
-keep_append : (f : Mention → Bool) (xs ys : List Mention) → keep f (xs ++ ys) ≡ keep f xs ++ keep f ys
-unfolding keep
-keep_append f [] ys = refl
-keep_append f (x ∷ xs) ys =
-    let rest = keep_append f xs ys in
-    test_cases
-    (λ t.
-    ◌≡◌ {A = List Mention} (elim t [ true ↦ x ∷ keep f (xs ++ ys) | false ↦ keep f (xs ++ ys) ])
-    (elim t [ true ↦ x ∷ keep f xs | false ↦ keep f xs ] ++ keep f ys))
-    (f x) (λ _. ap (λ (l : List Mention). x ∷ l) rest) (λ _. rest)
 
 pub names_append : (p : Purpose) (xs ys : List Mention) → names_for p (xs ++ ys) ≡ names_for p xs ++ names_for p ys
 unfolding names_for

@@ -10,12 +10,30 @@ ghost use Rattle.machine.specs.Step.{record_length};
 use base::LONGEST;
 
 // The number in the two bytes at a place, low byte first.
-// kept: scan's number4 reads four bytes so: each is one call of the library, on a type of its own (u16, u32); of six, decoder's number6, there is none
+// kept: number8 and scan's number4 read eight and four bytes so: each is one call of the library, on a type of its own; of six, decoder's number6,
+// there is none
 pub fn number2(s: &[u8], at: usize) -> usize
     requires { at + 2 ≤ length s.now }
     ensures { (result ≡ numeral_at 2 s.now at) × (result < 2 ^ 16) }
 {
     u16::from_le_bytes([s[at], s[at + 1]]) as usize
+}
+
+// The number in the eight bytes at a place, low byte first.
+pub fn number8(s: &[u8], at: usize) -> u64
+    requires { at + 8 ≤ length s.now }
+    ensures { result ≡ numeral_at 8 s.now at }
+{
+    u64::from_le_bytes([
+        s[at],
+        s[at + 1],
+        s[at + 2],
+        s[at + 3],
+        s[at + 4],
+        s[at + 5],
+        s[at + 6],
+        s[at + 7],
+    ])
 }
 
 // Whether all bytes of s are zero.

@@ -4,7 +4,7 @@ use Rattle.std.specs.Prelude.{true, List, [], ◌∷◌, ◌++◌, ◌≡◌, re
 use Rattle.std.proofs.Common.{sym, ◌∙◌, ap, ap₂, arith}
 use Rattle.base.specs.Current.{current, table_size}
 use Rattle.base.specs.ListLaws.{same_refl, length_stretch}
-use Rattle.encoding.specs.NumeralLaws.{BytesStand, stands_back, byte-read, number_behind}
+use Rattle.encoding.specs.NumeralLaws.{BytesStand, stands_back, byte-read, number_behind, number_written}
 use Rattle.encoding.specs.Numerals.{in_bytes, numeral_at}
 use Rattle.encoding.specs.Rules.{is_program, keeps_rules}
 use Rattle.encoding.specs.Table.{step_rows, all_elements, all_items, all_literals, element_rows, item_rows, filled_to}
@@ -14,7 +14,7 @@ use Rattle.encoding.specs.TableReading.{program_in}
 use Rattle.decoder.specs.Kept.{step_count}
 use Rattle.verifier.specs.Same.{SameSteps, all-elements, all-items, literals-written, items-written, elements-written, steps-written}
 use Rattle.verifier.specs.Split.{piece-split, filled-split, items-same, elements_same, steps-same}
-use Rattle.verifier.specs.Written.{piece, piece_add, piece_stands, piece-first, number_written}
+use Rattle.verifier.specs.Written.{piece, piece_add, piece_stands, piece-first}
 
 -- so many zeros from a place on
 abbrev pub Zeros : List ℕ → ℕ → ℕ → Type 0

@@ -1,13 +1,12 @@
 -- What is read at a place, written again, is the bytes that stand there. Assumes nothing.
 use Rattle.std.specs.Prelude.{List, ◌∷◌, ◌++◌, ◌≡◌, length, take, drop}
-use Rattle.std.proofs.Math.Path.{refl}
 use Rattle.std.proofs.Common.{sym, ◌∙◌, ap, ap₂, take-append-drop, drop-drop, take-add}
-use Prim.Native.Nat.{ℕ, zero, suc, ◌+◌, ◌*◌, ◌/◌, ◌%◌, ◌≤◌, ◌<◌}
+use Prim.Native.Nat.{ℕ, suc, ◌+◌, ◌≤◌, ◌<◌}
 use native.Mathlib.Omega.{arith}
 use Rattle.std.proofs.Math.ListN.{get_or}
 use Rattle.base.specs.ListLaws.{drop-next}
-use Rattle.encoding.specs.NumeralLaws.{BytesStand}
-use Rattle.encoding.specs.Numerals.{in_bytes, numeral_at}
+use Rattle.encoding.specs.NumeralLaws.{BytesStand, number_written}
+use Rattle.encoding.specs.Numerals.{numeral_at}
 use Rattle.encoding.specs.Table.{cell_bytes, row_bytes}
 use Rattle.encoding.specs.TableReading.{cell_at, read_row_at}
 
@@ -39,30 +38,19 @@ module _ (t : List ℕ) (bytes : (i : ℕ) → get_or t i 0 < 256) where
   pub piece-first : (at n : ℕ) → at < length t → piece t at (suc n) ≡ get_or t at 0 ∷ piece t (at + 1) n
   piece-first at n h = ap (take (suc n)) (drop-next t at 0 h)
 
-  pub number_written : (k at : ℕ) → at + k ≤ length t → in_bytes k (numeral_at k t at) ≡ piece t at k
-  unfolding in_bytes numeral_at
-  number_written zero at h = refl
-  number_written (suc k) at h =
-      let b = get_or t at 0 in
-      let m = numeral_at k t (at + 1) in
-      let small = bytes at in
-      let low : (b + 256 * m) % 256 ≡ b = omega arith in
-      let high : (b + 256 * m) / 256 ≡ m = omega arith in
-      rw (low, high, number_written k (at + 1) (omega arith)) (sym (piece-first at k (omega arith)))
-
   pub cell-written : (at : ℕ) → at + 8 ≤ length t → cell_bytes (cell_at t at) ≡ piece t at 8
   unfolding cell_bytes cell_at
   cell-written at h =
       let two : at + 1 + 1 ≡ at + 2 = omega arith in
       rw (piece-first at 7 (omega arith), piece-first (at + 1) 6 (omega arith), two)
-      (ap (λ l. get_or t at 0 ∷ (get_or t (at + 1) 0 ∷ l)) (number_written 6 (at + 2) (omega arith)))
+      (ap (λ l. get_or t at 0 ∷ (get_or t (at + 1) 0 ∷ l)) (number_written t bytes 6 (at + 2) (omega arith)))
 
   pub row_written : (at : ℕ) → at + 24 ≤ length t → row_bytes (numeral_at 2 t (at + 2)) (read_row_at t at) ≡ piece t at 24
   unfolding row_bytes read_row_at
   row_written at h =
-      let card = number_written 2 (at + 2) (omega arith) in
-      let success = number_written 2 (at + 4) (omega arith) in
-      let failure = number_written 2 (at + 6) (omega arith) in
+      let card = number_written t bytes 2 (at + 2) (omega arith) in
+      let success = number_written t bytes 2 (at + 4) (omega arith) in
+      let failure = number_written t bytes 2 (at + 6) (omega arith) in
       let left = cell-written (at + 8) (omega arith) in
       let right = cell-written (at + 16) (omega arith) in
       let two : at + 1 + 1 ≡ at + 2 = omega arith in

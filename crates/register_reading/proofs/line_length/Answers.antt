@@ -1,7 +1,7 @@
 -- `register_reading::line_length` tells how many bytes stand before the zeros at the end of a slot.
 use Rattle.std.proofs.Common.{◌-◌, length, subst, sym, ap, arith}
 use Rattle.std.proofs.lemmas.List.Sums.{suffix_len-le-length}
-use Rattle.register.specs.Buffer.{is_zero}
+use Rattle.base.specs.Lists.{is_zero}
 use Rattle.register_reading.specs.Reading.{Trimmed}
 use Rattle.register_reading.specs.SlotLaws.{trim_lem}
 use Rattle.register_reading.proofs.line_length.Goals as goal

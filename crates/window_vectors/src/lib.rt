@@ -1,0 +1,2 @@
+// Computed facts only: the definitions answer the window's scripts.
+#![tactic(auto)]
