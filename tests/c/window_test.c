@@ -17,7 +17,10 @@
 #include <stdlib.h>
 #include <string.h>
 
-enum { SCRIPTS = 30, MOST_SIZE = 300, LISTS = 100, LIST_PRICES = 10000, DAMAGED = 100000, OTHERS = 0x3c, TEXT_ROOM = 65536, ANSWER_ROOM = 128 };
+enum {
+    SCRIPTS = 30, COMMANDS = 2149, MOST_SIZE = 300, LISTS = 100, LIST_PRICES = 10000, DAMAGED = 100000, OTHERS = 0x3c,
+    TEXT_ROOM = 65536, ANSWER_ROOM = 128
+};
 
 static struct lent lent;
 
@@ -177,7 +180,7 @@ static void try_scripts(void)
     int scripts;
     doing.part = "scripts";
     scripts = each_stem("tests/vectors/window13/*.window", try_script);
-    if (scripts != SCRIPTS) fail("%d scripts, not %d", scripts, SCRIPTS);
+    if (scripts != SCRIPTS || commands != COMMANDS) fail("%d scripts of %ld commands, not %d of %d", scripts, commands, SCRIPTS, COMMANDS);
     printf("window test: %d scripts, of %ld commands, by the oracle and by the library\n", scripts, commands);
 }
 

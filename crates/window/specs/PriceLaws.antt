@@ -64,20 +64,20 @@ with_holdable prices price h e =
       few = last_length more;
     }
 
--- what counts of the prices offered, with one more
-pub counted_with : (offered : Prices) (price : ℕ) → price_in_range price ≡ true
-    → prices_counted (offered ++ (price ∷ [])) ≡ prices_counted offered ++ (price ∷ [])
+-- what counts of the prices offered, with one more: it counts too, or nothing more does
+counted_more : (offered : Prices) (price : ℕ) (counts : Bool) → price_in_range price ≡ counts
+    → prices_counted (offered ++ (price ∷ [])) ≡ prices_counted offered ++ (elim counts as (λ _. Prices) [ true ↦ price ∷ [] | false ↦ [] ])
 unfolding prices_counted keep
-counted_with offered price e =
+counted_more offered price counts e =
     keep_append price_in_range offered (price ∷ [])
     ∙ ap (λ t. prices_counted offered ++ (elim t as (λ _. Prices) [ true ↦ price ∷ [] | false ↦ [] ])) e
 
+pub counted_with : (offered : Prices) (price : ℕ) → price_in_range price ≡ true
+    → prices_counted (offered ++ (price ∷ [])) ≡ prices_counted offered ++ (price ∷ [])
+counted_with offered price e = counted_more offered price true e
+
 pub counted_without : (offered : Prices) (price : ℕ) → price_in_range price ≡ false → prices_counted (offered ++ (price ∷ [])) ≡ prices_counted offered
-unfolding prices_counted keep
-counted_without offered price e =
-    keep_append price_in_range offered (price ∷ [])
-    ∙ ap (λ t. prices_counted offered ++ (elim t as (λ _. Prices) [ true ↦ price ∷ [] | false ↦ [] ])) e
-    ∙ append-nil (prices_counted offered)
+counted_without offered price e = counted_more offered price false e ∙ append-nil (prices_counted offered)
 
 pub counted_all : (prices : Prices) → all price_in_range prices ≡ true → prices_counted prices ≡ prices
 unfolding prices_counted

@@ -40,6 +40,7 @@ prices_in window = before_zero (window_numbers window)
 unfoldable pub sound_numbers : (numbers : List ℕ) → Bool
 sound_numbers numbers = all price_in_range (before_zero numbers) && all is_zero (drop (length (before_zero numbers)) numbers)
 
--- W13.4 not "A window under 256 bytes or against its written rules". That its numbers are bytes is asked by WindowLaws: read-image alone
+-- W13.4 not "A window under 256 bytes or against its written rules". That its elements are bytes is a premise of WindowLaws: read-image and of
+-- CallLaws: keeps_history, and of nothing else
 unfoldable pub window_keeps : (window : List ℕ) → Bool
 window_keeps window = leb window_size (length window) && sound_numbers (window_numbers window)

@@ -32,12 +32,12 @@ image_append [] ys = refl
 image_append (x ∷ xs) ys =
     ap (λ l. in_bytes price_size x ++ l) (image_append xs ys) ∙ sym (append_assoc (in_bytes price_size x) (numbers_image xs) (numbers_image ys))
 
-numbers-zeros : (n : ℕ) → numbers_image (replicate n 0) ≡ replicate (price_size * n) 0
+zeros_written : (n : ℕ) → numbers_image (replicate n 0) ≡ replicate (price_size * n) 0
 unfolding numbers_image in_bytes
-numbers-zeros zero = refl
-numbers-zeros (suc n) =
+zeros_written zero = refl
+zeros_written (suc n) =
     let more : price_size + price_size * n ≡ price_size * suc n = omega arith in
-    ap (λ (l : List ℕ). replicate price_size 0 ++ l) (numbers-zeros n)
+    ap (λ (l : List ℕ). replicate price_size 0 ++ l) (zeros_written n)
     ∙ replicate-append-replicate {A = ℕ} price_size (price_size * n) 0
     ∙ ap (λ m. replicate m 0) more
 
@@ -48,7 +48,7 @@ with_zeros prices = prices ++ replicate (most_prices - length prices) 0
 pub image-with_zeros : (prices : Prices) → numbers_image (with_zeros prices) ≡ window_image prices
 unfolding window_image
 image-with_zeros prices =
-    image_append prices (replicate (most_prices - length prices) 0) ∙ ap (λ l. numbers_image prices ++ l) (numbers-zeros (most_prices - length prices))
+    image_append prices (replicate (most_prices - length prices) 0) ∙ ap (λ l. numbers_image prices ++ l) (zeros_written (most_prices - length prices))
 
 pub zeros_length : (prices : Prices) → length prices ≤ most_prices → length (with_zeros prices) ≡ most_prices
 zeros_length prices h =
