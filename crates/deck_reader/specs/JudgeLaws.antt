@@ -112,7 +112,7 @@ module _ (label : List ℕ) (whole : Bool) (text : List ℕ) (s : Symbols) where
         ∙ ap (λ (ns : List (List ℕ)). mentions_of (read_statement current (is_one_of ns) (places_in s.known) label whole text)) (sym h.numbers)
 
     -- the cursor behind a statement counts what the deck has behind it
-    cursor_behind : {v : Option Statement} {most : ℕ} {table : List ℕ} {m : Mentioned} {x : Parsed (Option Statement)} {table' : List ℕ}
+    pub cursor_behind : {v : Option Statement} {most : ℕ} {table : List ℕ} {m : Mentioned} {x : Parsed (Option Statement)} {table' : List ℕ}
         {m' : Mentioned} {d : Cursor} → (f : FormWritten v most table m (start_at s.known) x table' m' d)
         → Tallied k d (length (statement_items v)) f.rows (length (all_literals (elements_in v)))
     cursor_behind {v} f =

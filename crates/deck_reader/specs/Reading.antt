@@ -1,5 +1,6 @@
 -- What the deck call does: document 01's number, card and table. Assumes nothing.
 use Rattle.std.specs.Prelude.{List, [], ◌++◌, ◌≡◌, refl, ℕ, ◌+◌, ◌≤◌, ◌<◌, drop, replicate}
+use mathlib.Core.List.{append-nil}
 use Rattle.std.proofs.Math.Path.{sym, ap}
 use Rattle.std.proofs.Common.{◌∙◌, zero-add}
 use Rattle.std.proofs.Math.ListN.{length}
@@ -90,7 +91,13 @@ module _ {deck t : List ℕ} {v : Verdict} {s : Symbols} (small : length deck �
       let c = j.accepts z in
       let p = program_of current c.known (entries current deck) in
       let ok = accepted_is_program current deck p small c.is in
-      let written : i ≡ image current p = w.written (accepted_whole small c) ∙ image-written p ok in
+      let steps = program_steps current c.known 0 (entries current deck) in
+      let blank : List ℕ = replicate table_size 0 in
+      let written : i ≡ image current p =
+      w.written (accepted_whole small c)
+      ∙ ap (λ (x : List ℕ). splice (with_steps (nothing_written x) steps).table 0 (header p)) (sym (append-nil blank))
+      ∙ image-written p [] ok
+      ∙ append-nil (image current p) in
       let size : length {A = ℕ} (replicate table_size 0) ≡ length (image current p) =
       length-replicate {A = ℕ} table_size 0 ∙ sym (image-length current p ok current_size) in
       let table =

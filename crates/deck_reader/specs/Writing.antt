@@ -123,9 +123,9 @@ with_header w strings numbers =
     ∷ (in_bytes 2 w.steps
     ++ (in_bytes 2 strings ++ (in_bytes 2 numbers ++ (in_bytes 2 w.elements ++ (in_bytes 2 w.items ++ in_bytes 2 w.literals)))))))
 
--- a table by its regions
-abbrev regions : (h s e i l : List ℕ) → List ℕ
-regions h s e i l = h ++ (s ++ (e ++ (i ++ l)))
+-- a table by its regions, and what lies behind it
+abbrev regions : (h s e i l r : List ℕ) → List ℕ
+regions h s e i l r = h ++ (s ++ (e ++ (i ++ (l ++ r))))
 
 -- bytes written behind those that are there, in a region filled up with zeros
 splice-filled : (n at : ℕ) (bs v : List ℕ) → length bs ≡ at → length bs + length v ≤ n → splice (filled_to n bs) at v ≡ filled_to n (bs ++ v)
@@ -154,17 +154,17 @@ record Sized (h s e i : List ℕ) : Type 0 where
   items : length i ≡ 8192
 
 -- what is written to a region changes it alone
-module _ (h s e i l : List ℕ) (z : Sized h s e i) (j : ℕ) (v : List ℕ) where
-  in_steps : j + length v ≤ length s → splice (regions h s e i l) (64 + j) v ≡ regions h (splice s j v) e i l
+module _ (h s e i l r : List ℕ) (z : Sized h s e i) (j : ℕ) (v : List ℕ) where
+  in_steps : j + length v ≤ length s → splice (regions h s e i l r) (64 + j) v ≡ regions h (splice s j v) e i l r
   in_steps k = past h _ v 64 (64 + j) j z.header refl ∙ ap (λ (x : List ℕ). h ++ x) (splice-append s _ j v k)
 
-  in_elements : j + length v ≤ length e → splice (regions h s e i l) (6208 + j) v ≡ regions h s (splice e j v) i l
+  in_elements : j + length v ≤ length e → splice (regions h s e i l r) (6208 + j) v ≡ regions h s (splice e j v) i l r
   in_elements k =
       past h _ v 64 (6208 + j) (6144 + j) z.header (omega arith)
       ∙ ap (λ (x : List ℕ). h ++ x)
       (past s _ v 6144 (6144 + j) j z.steps refl ∙ ap (λ (x : List ℕ). s ++ x) (splice-append e _ j v k))
 
-  in_items : j + length v ≤ length i → splice (regions h s e i l) (14400 + j) v ≡ regions h s e (splice i j v) l
+  in_items : j + length v ≤ length i → splice (regions h s e i l r) (14400 + j) v ≡ regions h s e (splice i j v) l r
   in_items k =
       past h _ v 64 (14400 + j) (14336 + j) z.header (omega arith)
       ∙ ap (λ (x : List ℕ). h ++ x)
@@ -172,14 +172,15 @@ module _ (h s e i l : List ℕ) (z : Sized h s e i) (j : ℕ) (v : List ℕ) whe
       ∙ ap (λ (x : List ℕ). s ++ x)
       (past e _ v 8192 (8192 + j) j z.elements refl ∙ ap (λ (x : List ℕ). e ++ x) (splice-append i _ j v k)))
 
-  in_literals : j + length v ≤ length l → splice (regions h s e i l) (22592 + j) v ≡ regions h s e i (splice l j v)
+  in_literals : j + length v ≤ length l → splice (regions h s e i l r) (22592 + j) v ≡ regions h s e i (splice l j v) r
   in_literals k =
       past h _ v 64 (22592 + j) (22528 + j) z.header (omega arith)
       ∙ ap (λ (x : List ℕ). h ++ x)
       (past s _ v 6144 (22528 + j) (16384 + j) z.steps (omega arith)
       ∙ ap (λ (x : List ℕ). s ++ x)
       (past e _ v 8192 (16384 + j) (8192 + j) z.elements (omega arith)
-      ∙ ap (λ (x : List ℕ). e ++ x) (past i l v 8192 (8192 + j) j z.items refl)))
+      ∙ ap (λ (x : List ℕ). e ++ x)
+      (past i _ v 8192 (8192 + j) j z.items refl ∙ ap (λ (x : List ℕ). i ++ x) (splice-append l r j v k))))
 
 -- rows behind other rows
 rows_append : (element item : ℕ) (ss ts : List Step)
@@ -227,15 +228,15 @@ item_cells_append (x ∷ xs) ys =
     ap (λ z. cell_bytes (item_cell x) ++ z) (item_cells_append xs ys) ∙ sym (append_assoc (cell_bytes (item_cell x)) (item_rows xs) (item_rows ys))
 
 -- the table with these steps written and no header yet
-abbrev stepped : List Step → List ℕ
-stepped ss =
+abbrev stepped : List Step → List ℕ → List ℕ
+stepped ss r =
     regions (replicate 64 0) (filled_to 6144 (step_rows 0 0 ss)) (filled_to 8192 (element_rows 0 (all_elements ss)))
-    (filled_to 8192 (item_rows (all_items ss))) (filled_to 6080 (all_literals (all_elements ss)))
+    (filled_to 8192 (item_rows (all_items ss))) (filled_to 6080 (all_literals (all_elements ss))) r
 
-abbrev written : List Step → Written
-written ss =
+abbrev written : List Step → List ℕ → Written
+written ss r =
     record {
-      table = stepped ss;
+      table = stepped ss r;
       steps = length ss;
       elements = length (all_elements ss);
       items = length (all_items ss);
@@ -266,7 +267,7 @@ fits_front ss ts f =
     }
 
 -- one step more
-module _ (ss : List Step) (x : Step) (f : Fits (ss ++ (x ∷ []))) where
+module _ (ss : List Step) (x : Step) (r : List ℕ) (f : Fits (ss ++ (x ∷ []))) where
   abbrev y : Statement
   y = x.statement
 
@@ -360,45 +361,45 @@ module _ (ss : List Step) (x : Step) (f : Fits (ss ++ (x ∷ []))) where
       (omega (arith, more-is, length-append is (items_of y), length-item_rows (is ++ items_of y)))
 
   -- its items
-  own_items_lem : with_items (stepped ss) (length is) (items_of y) ≡ regions H S E I' L
+  own_items_lem : with_items (stepped ss r) (length is) (items_of y) ≡ regions H S E I' L r
   unfolding items_at
   own_items_lem =
       let rows = item_rows (items_of y) in
       let size = length-item_rows (items_of y) in
       let before = length-item_rows is in
-      items_rows (stepped ss) (length is) (items_of y) more-is
+      items_rows (stepped ss r) (length is) (items_of y) more-is
       (simp length-append (omega (arith, size_H, size_S, size_E, size_I, size_L)))
-      ∙ in_items H S E I L (record { header = size_H; steps = size_S; elements = size_E; items = size_I }) (8 * length is) rows
+      ∙ in_items H S E I L r (record { header = size_H; steps = size_S; elements = size_E; items = size_I }) (8 * length is) rows
       (omega (arith, more-is, size_I))
-      ∙ ap (λ (z : List ℕ). regions H S E z L)
+      ∙ ap (λ (z : List ℕ). regions H S E z L r)
       (splice-filled 8192 (8 * length is) (item_rows is) rows before (omega (arith, more-is))
       ∙ ap (filled_to 8192) (sym (item_cells_append is (items_of y))))
 
   -- its elements and their literal bytes
-  own_elements : with_elements (regions H S E I' L) (length es) (length ls) (elements_of y) ≡ regions H S E' I' L'
+  own_elements : with_elements (regions H S E I' L r) (length es) (length ls) (elements_of y) ≡ regions H S E' I' L' r
   unfolding elements_at literals_at
   own_elements =
       let rows = element_rows (length ls) (elements_of y) in
       let size = length-element_rows (length ls) (elements_of y) in
       let before = length-element_rows 0 es in
       let texts = all_literals (elements_of y) in
-      elements_rows (regions H S E I' L) (length es) (length ls) (elements_of y) more-es more-ls
+      elements_rows (regions H S E I' L r) (length es) (length ls) (elements_of y) more-es more-ls
       (simp length-append (omega (arith, size_H, size_S, size_E, size_I', size_L)))
       ∙ ap (λ (z : List ℕ). splice z (22592 + length ls) texts)
-      (in_elements H S E I' L (record { header = size_H; steps = size_S; elements = size_E; items = size_I' }) (8 * length es) rows
+      (in_elements H S E I' L r (record { header = size_H; steps = size_S; elements = size_E; items = size_I' }) (8 * length es) rows
       (omega (arith, more-es, size_E))
-      ∙ ap (λ (z : List ℕ). regions H S z I' L)
+      ∙ ap (λ (z : List ℕ). regions H S z I' L r)
       (splice-filled 8192 (8 * length es) (element_rows 0 es) rows before (omega (arith, more-es))
       ∙ ap (filled_to 8192)
       (sym (cells-append 0 es (elements_of y) ∙ ap (λ (l : ℕ). element_rows 0 es ++ element_rows l (elements_of y)) (zero-add (length ls))))))
-      ∙ in_literals H S E' I' L (record { header = size_H; steps = size_S; elements = size_E'; items = size_I' }) (length ls) texts
+      ∙ in_literals H S E' I' L r (record { header = size_H; steps = size_S; elements = size_E'; items = size_I' }) (length ls) texts
       (omega (arith, more-ls, size_L))
-      ∙ ap (λ (z : List ℕ). regions H S E' I' z)
+      ∙ ap (λ (z : List ℕ). regions H S E' I' z r)
       (splice-filled 6080 (length ls) ls texts refl (omega (arith, more-ls)) ∙ ap (filled_to 6080) (sym (all-literals-append es (elements_of y))))
 
   -- its row
-  own_row : with_row (regions H S E' I' L') (length ss) x.card (statement_row (length es) (length is) y)
-      ≡ regions H (filled_to 6144 (step_rows 0 0 (ss ++ (x ∷ [])))) E' I' L'
+  own_row : with_row (regions H S E' I' L' r) (length ss) x.card (statement_row (length es) (length is) y)
+      ≡ regions H (filled_to 6144 (step_rows 0 0 (ss ++ (x ∷ [])))) E' I' L' r
   unfolding with_row steps_at step_rows
   own_row =
       let row = row_bytes x.card (statement_row (length es) (length is) y) in
@@ -408,13 +409,13 @@ module _ (ss : List Step) (x : Step) (f : Fits (ss ++ (x ∷ []))) where
       rows_append 0 0 ss (x ∷ [])
       ∙ ap₂ (λ (a b : ℕ). step_rows 0 0 ss ++ step_rows a b (x ∷ [])) (zero-add (length es)) (zero-add (length is))
       ∙ ap (λ (z : List ℕ). step_rows 0 0 ss ++ z) (append-nil row) in
-      ap (λ b. cond b (splice (regions H S E' I' L') (64 + 24 * length ss) row) (regions H S E' I' L')) (lt-ltb (length ss) 256 more_ss)
-      ∙ in_steps H S E' I' L' (record { header = size_H; steps = size_S; elements = size_E'; items = size_I' }) (24 * length ss) row
+      ap (λ b. cond b (splice (regions H S E' I' L' r) (64 + 24 * length ss) row) (regions H S E' I' L' r)) (lt-ltb (length ss) 256 more_ss)
+      ∙ in_steps H S E' I' L' r (record { header = size_H; steps = size_S; elements = size_E'; items = size_I' }) (24 * length ss) row
       (omega (arith, more_ss, size_S))
-      ∙ ap (λ (z : List ℕ). regions H z E' I' L')
+      ∙ ap (λ (z : List ℕ). regions H z E' I' L' r)
       (splice-filled 6144 (24 * length ss) (step_rows 0 0 ss) row before (omega (arith, more_ss)) ∙ ap (filled_to 6144) (sym whole))
 
-  step-written : with_step (written ss) x ≡ written (ss ++ (x ∷ []))
+  step-written : with_step (written ss r) x ≡ written (ss ++ (x ∷ [])) r
   unfolding with_step
   step-written =
       let table =
@@ -424,7 +425,7 @@ module _ (ss : List Step) (x : Step) (f : Fits (ss ++ (x ∷ []))) where
       ∙ own_row
       ∙ ap₂ (λ (a : List PatternElement) (b : List Item).
       regions H (filled_to 6144 (step_rows 0 0 (ss ++ (x ∷ [])))) (filled_to 8192 (element_rows 0 a)) (filled_to 8192 (item_rows b))
-      (filled_to 6080 (all_literals a))) (sym all-es) (sym all-is) in
+      (filled_to 6080 (all_literals a)) r) (sym all-es) (sym all-is) in
       let steps = length-append ss (x ∷ []) in
       let elements = ap length all-es ∙ length-append es (elements_of y) in
       let items = ap length all-is ∙ length-append is (items_of y) in
@@ -436,26 +437,28 @@ module _ (ss : List Step) (x : Step) (f : Fits (ss ++ (x ∷ []))) where
       record { table = table i; steps = sym steps i; elements = sym elements i; items = sym items i; literals = sym literals i }
 
 -- all steps
-steps-written : (ss ts : List Step) → Fits (ss ++ ts) → with_steps (written ss) ts ≡ written (ss ++ ts)
+steps-written : (ss ts : List Step) (r : List ℕ) → Fits (ss ++ ts) → with_steps (written ss r) ts ≡ written (ss ++ ts) r
 unfolding with_steps
-steps-written ss [] f = ap written (sym (append-nil ss))
-steps-written ss (x ∷ ts) f =
+steps-written ss [] r f = ap (λ z. written z r) (sym (append-nil ss))
+steps-written ss (x ∷ ts) r f =
     let whole = append_assoc ss (x ∷ []) ts in
     let f' : Fits ((ss ++ (x ∷ [])) ++ ts) = subst Fits (sym whole) f in
-    ap (λ w. with_steps w ts) (step-written ss x (fits_front (ss ++ (x ∷ [])) ts f'))
-    ∙ steps-written (ss ++ (x ∷ [])) ts f'
-    ∙ ap written whole
+    ap (λ w. with_steps w ts) (step-written ss x r (fits_front (ss ++ (x ∷ [])) ts f'))
+    ∙ steps-written (ss ++ (x ∷ [])) ts r f'
+    ∙ ap (λ z. written z r) whole
 
 -- a table that is zeros has no steps yet
-zeros-written : nothing_written (replicate table_size 0) ≡ written []
+zeros-written : (r : List ℕ) → nothing_written (replicate table_size 0 ++ r) ≡ written [] r
 unfolding filled_to step_rows element_rows item_rows all_elements all_items all_literals
-zeros-written =
-    let cut : (n m : ℕ) → replicate (n + m) 0 ≡ replicate n 0 ++ replicate m 0 = λ n m. sym (replicate-append-replicate {A = ℕ} n m 0) in
+zeros-written r =
+    let cut : (n m : ℕ) (q : List ℕ) → replicate (n + m) 0 ++ q ≡ replicate n 0 ++ (replicate m 0 ++ q) =
+    λ n m q. ap (λ (z : List ℕ). z ++ q) (sym (replicate-append-replicate {A = ℕ} n m 0)) ∙ append_assoc (replicate n 0) (replicate m 0) q in
     ap nothing_written
-    (cut 64 28608
+    (cut 64 28608 r
     ∙ ap (λ (z : List ℕ). replicate 64 0 ++ z)
-    (cut 6144 22464
-    ∙ ap (λ (z : List ℕ). replicate 6144 0 ++ z) (cut 8192 14272 ∙ ap (λ (z : List ℕ). replicate 8192 0 ++ z) (cut 8192 6080))))
+    (cut 6144 22464 r
+    ∙ ap (λ (z : List ℕ). replicate 6144 0 ++ z)
+    (cut 8192 14272 r ∙ ap (λ (z : List ℕ). replicate 8192 0 ++ z) (cut 8192 6080 r))))
 
 -- nothing filled up is zeros
 nothing_filled : (n : ℕ) → filled_to n [] ≡ replicate n 0
@@ -471,11 +474,14 @@ header-filled p = ap (λ (z : List ℕ). splice z 0 (header p)) zeros ∙ splice
     zeros : replicate 64 0 ≡ filled_to 64 []
     zeros = sym (nothing_filled 64)
 
--- A zeroed table with a program's steps and header written is the program's image.
-pub image-written : (p : Program) → is_program current p ≡ true
-    → splice (with_steps (nothing_written (replicate table_size 0)) p.steps).table 0 (header p) ≡ image current p
+together : (h s e i l r : List ℕ) → (h ++ (s ++ (e ++ (i ++ l)))) ++ r ≡ regions h s e i l r
+together h s e i l r = simp append_assoc
+
+-- A zeroed table with a program's steps and header written is the program's image, and what lies behind it stays.
+pub image-written : (p : Program) (r : List ℕ) → is_program current p ≡ true
+    → splice (with_steps (nothing_written (replicate table_size 0 ++ r)) p.steps).table 0 (header p) ≡ image current p ++ r
 unfolding image steps_at elements_at items_at literals_at current all_elements all_items all_literals
-image-written p ok =
+image-written p r ok =
     let range = in_range_lem current p ok in
     let fits : Fits p.steps = record { steps = range.steps; elements = range.elements; items = range.items; literals = range.literals } in
     let ss = p.steps in
@@ -483,7 +489,8 @@ image-written p ok =
     let E = filled_to 8192 (element_rows 0 (all_elements ss)) in
     let I = filled_to 8192 (item_rows (all_items ss)) in
     let L = filled_to 6080 (all_literals (all_elements ss)) in
-    ap (λ (w : Written). splice (with_steps w ss).table 0 (header p)) zeros-written
-    ∙ ap (λ (w : Written). splice w.table 0 (header p)) (steps-written [] ss fits)
-    ∙ splice-append (replicate 64 0) (S ++ (E ++ (I ++ L))) 0 (header p) (omega (arith, length-header p))
-    ∙ ap (λ (z : List ℕ). z ++ (S ++ (E ++ (I ++ L)))) (header-filled p)
+    ap (λ (w : Written). splice (with_steps w ss).table 0 (header p)) (zeros-written r)
+    ∙ ap (λ (w : Written). splice w.table 0 (header p)) (steps-written [] ss r fits)
+    ∙ splice-append (replicate 64 0) (S ++ (E ++ (I ++ (L ++ r)))) 0 (header p) (omega (arith, length-header p))
+    ∙ ap (λ (z : List ℕ). z ++ (S ++ (E ++ (I ++ (L ++ r))))) (header-filled p)
+    ∙ sym (together (filled_to 64 (header p)) S E I L r)

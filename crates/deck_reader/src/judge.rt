@@ -1,6 +1,7 @@
 // The first pass over a deck: its entries judged one after the other by 3 to 10, then the deck by 11 and 12.
 // Assumes nothing.
-ghost use Rattle.std.specs.Prelude.{true, ◌≡◌};
+ghost use Rattle.std.specs.Prelude.{true, ◌≡◌, ◌≤◌, length};
+ghost use Rattle.base.specs.Current.{table_size};
 ghost use Rattle.validation.specs.Environment.{empty_environment};
 ghost use Rattle.validation.specs.RefusalNumbers.{judged_number};
 ghost use Rattle.link_checks.specs.Held.{Closable};
@@ -11,7 +12,6 @@ ghost use Rattle.deck_reader.specs.Judging.{start_at, Readied, Entered, PackedNu
 use crate::Deck;
 use base::DECK;
 use card_reader::{Gathered, PackedStatement, gather};
-use encoding::TABLE_SIZE;
 use lexer::keywords::leading;
 use link_checks::{executes_itself, undefined_or_crossing};
 use statement_checks::{is_misplaced, judge_statement};
@@ -51,9 +51,10 @@ fn judge_packed(
     packed: PackedStatement,
     symbols: &mut Symbols,
     mentioned: &mut Mentioned,
-    table: &mut [u8; TABLE_SIZE],
+    table: &mut [u8],
 ) -> Result<(), Refusal>
-    requires { Readied text.now packed symbols.old }
+    requires readied { Readied text.now packed symbols.old }
+    requires table_size_in_bounds { table_size ≤ length table.old }
     ensures { PackedNumbered text.now packed true symbols.old (judged_number result) symbols.new }
 {
     let kind = leading(text).kind;
@@ -72,9 +73,10 @@ fn judge_gathered(
     e: Gathered,
     symbols: &mut Symbols,
     mentioned: &mut Mentioned,
-    table: &mut [u8; TABLE_SIZE],
+    table: &mut [u8],
 ) -> Result<(), Refusal>
-    requires { Entered text.now e symbols.old }
+    requires entered { Entered text.now e symbols.old }
+    requires table_size_in_bounds { table_size ≤ length table.old }
     ensures { EntryNumbered text.now e symbols.old (judged_number result) symbols.new }
 {
     if !e.sound {
@@ -102,9 +104,10 @@ fn judge_statements(
     symbols: &mut Symbols,
     text: &mut [u8; DECK],
     mentioned: &mut Mentioned,
-    table: &mut [u8; TABLE_SIZE],
+    table: &mut [u8],
 ) -> Result<(), Refused>
-    requires { SymbolsHold symbols.old 0 empty_environment }
+    requires symbols_hold { SymbolsHold symbols.old 0 empty_environment }
+    requires table_size_in_bounds { table_size ≤ length table.old }
     ensures { StatementsJudged deck.entry.bytes.now (verdict_of result) symbols.new }
 {
     let mut from: usize = 0;
@@ -140,9 +143,10 @@ pub fn judge_deck(
     symbols: &mut Symbols,
     text: &mut [u8; DECK],
     mentioned: &mut Mentioned,
-    table: &mut [u8; TABLE_SIZE],
+    table: &mut [u8],
 ) -> Result<(), Refused>
-    requires { SymbolsHold symbols.old 0 empty_environment }
+    requires symbols_hold { SymbolsHold symbols.old 0 empty_environment }
+    requires table_size_in_bounds { table_size ≤ length table.old }
     ensures { DeckJudged deck.entry.bytes.now (verdict_of result) symbols.new }
 {
     judge_statements(deck, symbols, text, mentioned, table)?;

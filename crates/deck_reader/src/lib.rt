@@ -38,9 +38,10 @@ fn write_table(
     known: &mut Known,
     text: &mut [u8; DECK],
     mentioned: &mut Mentioned,
-    table: &mut [u8; TABLE_SIZE],
+    table: &mut [u8],
 )
-    requires { DeckAccepted deck.bytes.now known.old }
+    requires deck_accepted { DeckAccepted deck.bytes.now known.old }
+    requires table_size_in_bounds { table_size ≤ length table.old }
     ensures { TableWritten deck.entry.bytes.now known.old table.old table.new }
 {
     let p = write_steps(deck, known, text, mentioned, table);

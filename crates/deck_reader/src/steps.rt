@@ -1,6 +1,7 @@
 // The second pass over an accepted deck: each statement read again, its step written.
 // Assumes nothing.
 ghost use Rattle.std.specs.Prelude.{◌≡◌, ◌≤◌, ◌<◌, length};
+ghost use Rattle.base.specs.Current.{table_size};
 ghost use Rattle.symbols.specs.Clauses.{names_room};
 ghost use Rattle.card_reader.specs.Letters.{letters};
 ghost use Rattle.card_reader.specs.Packs.{longest_text};
@@ -11,7 +12,6 @@ use crate::Deck;
 use crate::table::put_row;
 use base::DECK;
 use card_reader::{PackedStatement, gather};
-use encoding::TABLE_SIZE;
 use statement_parser::read_statement;
 use symbols::known::Known;
 use symbols::{Cursor, Mentioned};
@@ -44,9 +44,10 @@ fn write_packed(
     p: Progress,
     known: &Known,
     mentioned: &mut Mentioned,
-    table: &mut [u8; TABLE_SIZE],
+    table: &mut [u8],
 ) -> Progress
-    requires { CountsSmall p × (length text.now ≤ longest_text) × (letters text.now < names_room) }
+    requires counts_small { CountsSmall p × (length text.now ≤ longest_text) × (letters text.now < names_room) }
+    requires table_size_in_bounds { table_size ≤ length table.old }
     ensures { PackedWritten text.now known.now packed p table.old result table.new }
 {
     let c = p.cursor();
@@ -74,9 +75,10 @@ fn write_gathered(
     p: Progress,
     known: &mut Known,
     mentioned: &mut Mentioned,
-    table: &mut [u8; TABLE_SIZE],
+    table: &mut [u8],
 ) -> Progress
-    requires { CountsSmall p × Writable text.now statement }
+    requires counts_small { CountsSmall p × Writable text.now statement }
+    requires table_size_in_bounds { table_size ≤ length table.old }
     ensures { GatheredWritten text.now known.old mentioned.old statement p table.old result known.new mentioned.new table.new }
 {
     match statement {
@@ -95,9 +97,10 @@ fn write_entry(
     known: &mut Known,
     text: &mut [u8; DECK],
     mentioned: &mut Mentioned,
-    table: &mut [u8; TABLE_SIZE],
+    table: &mut [u8],
 ) -> Progress
-    requires { CountsSmall p × (p.from < length deck.bytes.now) }
+    requires counts_small { CountsSmall p × (p.from < length deck.bytes.now) }
+    requires table_size_in_bounds { table_size ≤ length table.old }
     ensures { StepWritten deck.entry.bytes.now known.old p table.old result known.new table.new }
 {
     let e = gather(deck.bytes, p.from, text);
@@ -115,9 +118,10 @@ pub fn write_steps(
     known: &mut Known,
     text: &mut [u8; DECK],
     mentioned: &mut Mentioned,
-    table: &mut [u8; TABLE_SIZE],
+    table: &mut [u8],
 ) -> Progress
-    requires { DeckAccepted deck.bytes.now known.old }
+    requires deck_accepted { DeckAccepted deck.bytes.now known.old }
+    requires table_size_in_bounds { table_size ≤ length table.old }
     ensures { DeckWritten deck.entry.bytes.now known.old table.old result known.new table.new }
 {
     let mut p = Progress {

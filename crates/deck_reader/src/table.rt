@@ -1,6 +1,7 @@
 // Rows of steps and the header of a table, written in their bytes.
 // Assumes nothing.
 ghost use Rattle.std.specs.Prelude.{◌≡◌, ◌+◌, ◌≤◌, length};
+ghost use Rattle.base.specs.Current.{table_size};
 ghost use Rattle.encoding.specs.Meaning.{row_meaning, cell_meaning};
 ghost use Rattle.encoding.specs.Splices.{splice};
 ghost use Rattle.encoding.specs.Table.{cell_bytes};
@@ -8,7 +9,7 @@ ghost use Rattle.deck_reader.specs.Writing.{counted_by, with_row, with_header};
 
 use base::STEPS;
 use encoding::cells::{Cell, Counts, Row};
-use encoding::{STEP_ROW, STEPS_AT, TABLE_SIZE};
+use encoding::{STEP_ROW, STEPS_AT};
 use symbols::{put_cell, put_number};
 
 // writes the cells of a row at a place
@@ -21,7 +22,8 @@ fn put_cells(table: &mut [u8], at: usize, left: Cell, right: Cell)
 }
 
 // writes row k of all steps; of those behind the last row nothing
-pub fn put_row(table: &mut [u8; TABLE_SIZE], k: usize, card: usize, row: Row)
+pub fn put_row(table: &mut [u8], k: usize, card: usize, row: Row)
+    requires { table_size ≤ length table.old }
     ensures { table.new ≡ with_row table.old k card (row_meaning row) }
 {
     if k < STEPS {
@@ -37,7 +39,8 @@ pub fn put_row(table: &mut [u8; TABLE_SIZE], k: usize, card: usize, row: Row)
 
 // writes the header: the format and the six counts
 // kept: a call for each count, since a loop over an array of them takes an invariant and two laws more
-pub fn put_header(table: &mut [u8; TABLE_SIZE], n: Counts)
+pub fn put_header(table: &mut [u8], n: Counts)
+    requires { table_size ≤ length table.old }
     ensures { table.new ≡ with_header (counted_by n table.old) n.strings n.numbers }
 {
     table[0] = 1;

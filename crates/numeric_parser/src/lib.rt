@@ -5,6 +5,7 @@
 pub mod operands;
 
 ghost use Rattle.std.specs.Prelude.{◌≡◌, ◌≤◌, length};
+ghost use Rattle.base.specs.Current.{table_size};
 ghost use Rattle.encoding.specs.Meaning.{cell_meaning};
 ghost use Rattle.encoding.specs.Table.{cell, item_cell};
 ghost use Rattle.symbols.specs.Bounds.{far_enough};
@@ -13,8 +14,8 @@ ghost use Rattle.numeric_parser.specs.Kinds.{mark_at, PutsCell, ItemsPut, Operan
 ghost use Rattle.numeric_parser.specs.Reads.{mark_item, waiting, FactorRead, ExpressionRead, TermRead};
 
 use base::DEEPEST;
+use encoding::cell_kinds;
 use encoding::cells::Cell;
-use encoding::{TABLE_SIZE, cell_kinds};
 use lexer::stands_at;
 use operands::{marked, plain, skip};
 use symbols::known::Known;
@@ -68,8 +69,8 @@ fn size(mark: Option<Mark>) -> usize
 }
 
 // writes the next item
-fn put(table: &mut [u8; TABLE_SIZE], c: Cursor, cell: Cell) -> Cursor
-    requires { c.items ≤ far_enough }
+fn put(table: &mut [u8], c: Cursor, cell: Cell) -> Cursor
+    requires { (table_size ≤ length table.old) × (c.items ≤ far_enough) }
     ensures { PutsCell table.old c (cell_meaning cell) table.new result }
 {
     put_item(table, c.items, cell);
@@ -81,8 +82,8 @@ fn put(table: &mut [u8; TABLE_SIZE], c: Cursor, cell: Cell) -> Cursor
 
 // writes what waits
 #[tactic(auto, using(crate::specs::KindLaws::puts_waiting, crate::specs::KindLaws::puts_nothing))]
-fn put_mark(table: &mut [u8; TABLE_SIZE], c: Cursor, mark: Option<Mark>) -> Cursor
-    requires { c.items ≤ far_enough }
+fn put_mark(table: &mut [u8], c: Cursor, mark: Option<Mark>) -> Cursor
+    requires { (table_size ≤ length table.old) × (c.items ≤ far_enough) }
     ensures { ItemsPut table.old c (waiting mark) table.new result }
 {
     match mark {
@@ -103,11 +104,12 @@ fn put_mark(table: &mut [u8; TABLE_SIZE], c: Cursor, mark: Option<Mark>) -> Curs
 fn write_operand(
     text: &[u8],
     known: &Known,
-    table: &mut [u8; TABLE_SIZE],
+    table: &mut [u8],
     mentioned: &mut Mentioned,
     c: Cursor,
 ) -> Option<Cursor>
-    requires { ReaderReady text.now c }
+    requires reader_ready { ReaderReady text.now c }
+    requires table_size_in_bounds { table_size ≤ length table.old }
     ensures { OperandWritten text.now known.now table.old mentioned.old c result
         table.new mentioned.new }
 {
@@ -121,12 +123,13 @@ fn write_operand(
 pub fn expression(
     text: &[u8],
     known: &Known,
-    table: &mut [u8; TABLE_SIZE],
+    table: &mut [u8],
     mentioned: &mut Mentioned,
     c: Cursor,
     depth: usize,
 ) -> Option<Cursor>
-    requires { ReaderReady text.now c }
+    requires reader_ready { ReaderReady text.now c }
+    requires table_size_in_bounds { table_size ≤ length table.old }
     ensures { ExpressionRead text.now known.now table.old mentioned.old c depth result
         table.new mentioned.new }
 {
@@ -151,12 +154,13 @@ pub fn expression(
 fn term(
     text: &[u8],
     known: &Known,
-    table: &mut [u8; TABLE_SIZE],
+    table: &mut [u8],
     mentioned: &mut Mentioned,
     c: Cursor,
     depth: usize,
 ) -> Option<Cursor>
-    requires { ReaderReady text.now c }
+    requires reader_ready { ReaderReady text.now c }
+    requires table_size_in_bounds { table_size ≤ length table.old }
     ensures { TermRead text.now known.now table.old mentioned.old c depth result
         table.new mentioned.new }
 {
@@ -179,12 +183,13 @@ fn term(
 fn factor(
     text: &[u8],
     known: &Known,
-    table: &mut [u8; TABLE_SIZE],
+    table: &mut [u8],
     mentioned: &mut Mentioned,
     c: Cursor,
     depth: usize,
 ) -> Option<Cursor>
-    requires { ReaderReady text.now c }
+    requires reader_ready { ReaderReady text.now c }
+    requires table_size_in_bounds { table_size ≤ length table.old }
     ensures { FactorRead text.now known.now table.old mentioned.old c depth result
         table.new mentioned.new }
 {

@@ -252,7 +252,7 @@ module _ (known : Known) where
 
 -- ---- a unit, if it stands here
 module _ (text unit : List ℕ) {c d : Cursor} where
-  unit_here : length unit ≡ 4 → begins unit (drop c.at text) ≡ true → c.at ≤ length text → d ≡ cursor_moved c 4 → BehindUnit text unit c d
+  pub unit_here : length unit ≡ 4 → begins unit (drop c.at text) ≡ true → c.at ≤ length text → d ≡ cursor_moved c 4 → BehindUnit text unit c d
   unfolding without_unit
   unit_here size e inside s =
       let at : d.at ≡ c.at + 4 = ap (λ (z : Cursor). z.at) s in
@@ -266,7 +266,7 @@ module _ (text unit : List ℕ) {c d : Cursor} where
         inside = omega (arith, begins_room unit (drop c.at text) e, length-drop c.at text);
       }
 
-unit_none : (text unit : List ℕ) (c : Cursor) → begins unit (drop c.at text) ≡ false → c.at ≤ length text → BehindUnit text unit c c
+pub unit_none : (text unit : List ℕ) (c : Cursor) → begins unit (drop c.at text) ≡ false → c.at ≤ length text → BehindUnit text unit c c
 unfolding without_unit
 unit_none text unit c e inside =
     record {

@@ -6,7 +6,8 @@
 pub mod stages;
 pub mod steps;
 
-ghost use Rattle.std.specs.Prelude.{◌≡◌};
+ghost use Rattle.std.specs.Prelude.{◌≡◌, ◌≤◌, length};
+ghost use Rattle.base.specs.Current.{table_size};
 ghost use Rattle.statement_parser.specs.Clauses.{Starts, StatementFormRead, StatementRead};
 ghost use Rattle.statement_parser.specs.Labels.{name_shown};
 
@@ -14,7 +15,7 @@ use branch_parser::Target;
 use card_reader::PackedStatement;
 use classes::{is_letter, is_letter_or_digit};
 use encoding::cells::{Direction, Row};
-use encoding::{TABLE_SIZE, step_kinds};
+use encoding::step_kinds;
 use lexer::keywords::{Kind, leading};
 use numeric_parser::operands::skip;
 use steps::{
@@ -31,11 +32,12 @@ use symbols::{Cursor, Mentioned};
 pub fn read_form(
     text: &[u8],
     known: &Known,
-    table: &mut [u8; TABLE_SIZE],
+    table: &mut [u8],
     mentioned: &mut Mentioned,
     c: Cursor,
 ) -> Option<(Option<Row>, Cursor)>
-    requires { Starts text.now c }
+    requires starts { Starts text.now c }
+    requires table_size_in_bounds { table_size ≤ length table.old }
     ensures { StatementFormRead text.now known.now table.old mentioned.old c result
         table.new mentioned.new }
 {
@@ -83,12 +85,13 @@ pub fn read_statement(
     text: &[u8],
     packed: PackedStatement,
     known: &Known,
-    table: &mut [u8; TABLE_SIZE],
+    table: &mut [u8],
     mentioned: &mut Mentioned,
     c: Cursor,
 ) -> Option<(Option<Row>, Cursor)>
     requires starts { Starts text.now c }
     requires names_value { c.names ≡ 0 }
+    requires table_size_in_bounds { table_size ≤ length table.old }
     ensures { StatementRead packed.label packed.whole text.now known.now table.old mentioned.old c result
         table.new mentioned.new }
 {

@@ -1,6 +1,7 @@
 // The parts of forms that several forms have, and the replacement of a SCAN.
 // Assumes nothing.
-ghost use Rattle.std.specs.Prelude.{Some, ◌≡◌, ◌≤◌, ◌<◌};
+ghost use Rattle.std.specs.Prelude.{Some, ◌≡◌, ◌≤◌, ◌<◌, length};
+ghost use Rattle.base.specs.Current.{table_size};
 ghost use Rattle.statement_parser.specs.Rows.{range_in};
 ghost use Rattle.statement_parser.specs.Stages.{BranchIfAnyRead, StretchRead, ReplacedStage};
 ghost use Rattle.symbols.specs.Bounds.{far_enough};
@@ -8,7 +9,7 @@ ghost use Rattle.numeric_parser.specs.Operands.{ReaderReady};
 
 use branch_parser::read_branch;
 use encoding::cells::{Branch, Cell, Row};
-use encoding::{TABLE_SIZE, cell_kinds, step_kinds};
+use encoding::{cell_kinds, step_kinds};
 use lexer::stands_at;
 use numeric_parser::operands::{marked, range_value};
 use string_parser::Elements;
@@ -51,12 +52,13 @@ pub fn branch_or_next(
 pub fn stretch(
     text: &[u8],
     known: &Known,
-    table: &mut [u8; TABLE_SIZE],
+    table: &mut [u8],
     mentioned: &mut Mentioned,
     c: Cursor,
     elements: Elements,
 ) -> Option<(Cell, Cursor)>
-    requires { ReaderReady text.now c }
+    requires reader_ready { ReaderReady text.now c }
+    requires table_size_in_bounds { table_size ≤ length table.old }
     ensures { StretchRead text.now known.now elements table.old mentioned.old c result
         table.new mentioned.new }
 {
@@ -69,13 +71,14 @@ pub fn stretch(
 pub fn replaced(
     text: &[u8],
     known: &Known,
-    table: &mut [u8; TABLE_SIZE],
+    table: &mut [u8],
     mentioned: &mut Mentioned,
     row: Row,
     c: Cursor,
     from: usize,
 ) -> Option<(Row, Cursor)>
-    requires { ReaderReady text.now c × (from ≤ c.elements) }
+    requires following { ReaderReady text.now c × (from ≤ c.elements) }
+    requires table_size_in_bounds { table_size ≤ length table.old }
     ensures { ReplacedStage text.now known.now table.old mentioned.old from (Some (row, c)) result
         table.new mentioned.new }
 {

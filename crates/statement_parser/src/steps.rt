@@ -1,6 +1,7 @@
 // The forms of the kinds of statements, each read from behind its keyword.
 // Assumes nothing.
 ghost use Rattle.std.specs.Prelude.{◌≡◌, ◌≤◌, length};
+ghost use Rattle.base.specs.Current.{table_size};
 ghost use Rattle.statement_parser.specs.Ends.{ended_at, ended_by};
 ghost use Rattle.statement_parser.specs.Rows.{begun_as};
 ghost use Rattle.statement_parser.specs.Steps.{TargetFormRead, IfRead, InputRead, OutputRead, StringSetRead, ScanRead};
@@ -13,7 +14,7 @@ use crate::stages::{branch_or_next, range_cell, replaced, stretch};
 use branch_parser::tests::read_test;
 use branch_parser::{BLANK, Target, read_branch, read_target};
 use encoding::cells::{Branch, Cell, Direction, Row};
-use encoding::{TABLE_SIZE, cell_kinds, step_kinds};
+use encoding::{cell_kinds, step_kinds};
 use lexer::names::{key_of, name_length};
 use lexer::stands_at;
 use numeric_parser::expression;
@@ -112,11 +113,12 @@ pub fn input_form(
 pub fn output_form(
     text: &[u8],
     known: &Known,
-    table: &mut [u8; TABLE_SIZE],
+    table: &mut [u8],
     mentioned: &mut Mentioned,
     c: Cursor,
 ) -> Option<(Option<Row>, Cursor)>
-    requires { ReaderReady text.now c }
+    requires reader_ready { ReaderReady text.now c }
+    requires table_size_in_bounds { table_size ≤ length table.old }
     ensures { OutputRead text.now known.now table.old mentioned.old c result table.new mentioned.new }
 {
     let d = behind_unit(text, c, b"(61)");
@@ -137,11 +139,12 @@ pub fn output_form(
 fn string_form(
     text: &[u8],
     known: &Known,
-    table: &mut [u8; TABLE_SIZE],
+    table: &mut [u8],
     mentioned: &mut Mentioned,
     c: Cursor,
 ) -> Option<(Option<Row>, Cursor)>
-    requires { ReaderReady text.now c }
+    requires reader_ready { ReaderReady text.now c }
+    requires table_size_in_bounds { table_size ≤ length table.old }
     ensures { StringSetRead text.now known.now table.old mentioned.old c result
         table.new mentioned.new }
 {
@@ -161,12 +164,13 @@ fn string_form(
 pub fn scan_form(
     text: &[u8],
     known: &Known,
-    table: &mut [u8; TABLE_SIZE],
+    table: &mut [u8],
     mentioned: &mut Mentioned,
     c: Cursor,
     direction: Direction,
 ) -> Option<(Option<Row>, Cursor)>
-    requires { ReaderReady text.now c }
+    requires reader_ready { ReaderReady text.now c }
+    requires table_size_in_bounds { table_size ≤ length table.old }
     ensures { ScanRead text.now known.now table.old mentioned.old c direction result
         table.new mentioned.new }
 {
@@ -194,12 +198,13 @@ pub fn scan_form(
 fn assigned(
     text: &[u8],
     known: &Known,
-    table: &mut [u8; TABLE_SIZE],
+    table: &mut [u8],
     mentioned: &mut Mentioned,
     c: Cursor,
     place: u8,
 ) -> Option<(Option<Row>, Cursor)>
-    requires { ReaderReady text.now c }
+    requires reader_ready { ReaderReady text.now c }
+    requires table_size_in_bounds { table_size ≤ length table.old }
     ensures { AssignedRead text.now known.now table.old mentioned.old c place result
         table.new mentioned.new }
 {
@@ -223,11 +228,12 @@ fn assigned(
 fn number_form(
     text: &[u8],
     known: &Known,
-    table: &mut [u8; TABLE_SIZE],
+    table: &mut [u8],
     mentioned: &mut Mentioned,
     c: Cursor,
 ) -> Option<(Option<Row>, Cursor)>
-    requires { ReaderReady text.now c }
+    requires reader_ready { ReaderReady text.now c }
+    requires table_size_in_bounds { table_size ≤ length table.old }
     ensures { NumberSetRead text.now known.now table.old mentioned.old c result
         table.new mentioned.new }
 {
@@ -250,11 +256,12 @@ fn sets_number(text: &[u8], known: &Known, at: usize) -> bool
 pub fn replacement_form(
     text: &[u8],
     known: &Known,
-    table: &mut [u8; TABLE_SIZE],
+    table: &mut [u8],
     mentioned: &mut Mentioned,
     c: Cursor,
 ) -> Option<(Option<Row>, Cursor)>
-    requires { ReaderReady text.now c }
+    requires reader_ready { ReaderReady text.now c }
+    requires table_size_in_bounds { table_size ≤ length table.old }
     ensures { ReplacementRead text.now known.now table.old mentioned.old c result
         table.new mentioned.new }
 {

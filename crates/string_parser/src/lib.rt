@@ -7,7 +7,8 @@
 pub mod cells;
 pub mod literals;
 
-ghost use Rattle.std.specs.Prelude.{◌≡◌, ◌≤◌, drop};
+ghost use Rattle.std.specs.Prelude.{◌≡◌, ◌≤◌, length, drop};
+ghost use Rattle.base.specs.Current.{table_size};
 ghost use Rattle.syntax.specs.Strings.{nothing_here};
 ghost use Rattle.symbols.specs.Bounds.{far_enough};
 ghost use Rattle.symbols.specs.Elements.{with_element};
@@ -16,8 +17,8 @@ ghost use Rattle.numeric_parser.specs.Operands.{ReaderReady};
 ghost use Rattle.string_parser.specs.Elements.{one_more, ElementRead, PatternElementRead, OneRead, MoreRead, ended_row, RowsRead};
 
 use cells::{filler, text_call};
+use encoding::cell_kinds;
 use encoding::cells::Cell;
-use encoding::{TABLE_SIZE, cell_kinds};
 use lexer::stands_at;
 use literals::literal;
 use numeric_parser::operands::{behind_word, marked, read_part};
@@ -35,8 +36,8 @@ pub enum Elements {
 
 // writes a cell as the next element
 // kept: numeric_parser's put does so for items: they differ in the rows they write to and the count they raise, so as methods of Cursor they are two
-fn put(table: &mut [u8; TABLE_SIZE], c: Cursor, v: Cell) -> Cursor
-    requires { c.elements ≤ far_enough }
+fn put(table: &mut [u8], c: Cursor, v: Cell) -> Cursor
+    requires { (table_size ≤ length table.old) × (c.elements ≤ far_enough) }
     ensures { (result ≡ one_more c) × (table.new ≡ with_element table.old c.elements (cell_meaning v)) }
 {
     put_element(table, c.elements, v);
@@ -50,12 +51,13 @@ fn put(table: &mut [u8; TABLE_SIZE], c: Cursor, v: Cell) -> Cursor
 fn element(
     text: &[u8],
     known: &Known,
-    table: &mut [u8; TABLE_SIZE],
+    table: &mut [u8],
     mentioned: &mut Mentioned,
     c: Cursor,
     role: Option<Role>,
 ) -> Option<Cursor>
-    requires { ReaderReady text.now c }
+    requires reader_ready { ReaderReady text.now c }
+    requires table_size_in_bounds { table_size ≤ length table.old }
     ensures { ElementRead text.now known.now table.old mentioned.old c role result
         table.new mentioned.new }
 {
@@ -74,11 +76,12 @@ fn element(
 fn pattern_element(
     text: &[u8],
     known: &Known,
-    table: &mut [u8; TABLE_SIZE],
+    table: &mut [u8],
     mentioned: &mut Mentioned,
     c: Cursor,
 ) -> Option<Cursor>
-    requires { ReaderReady text.now c }
+    requires reader_ready { ReaderReady text.now c }
+    requires table_size_in_bounds { table_size ≤ length table.old }
     ensures { PatternElementRead text.now known.now table.old mentioned.old c result
         table.new mentioned.new }
 {
@@ -93,12 +96,13 @@ fn pattern_element(
 fn one(
     text: &[u8],
     known: &Known,
-    table: &mut [u8; TABLE_SIZE],
+    table: &mut [u8],
     mentioned: &mut Mentioned,
     c: Cursor,
     elements: Elements,
 ) -> Option<Cursor>
-    requires { ReaderReady text.now c }
+    requires reader_ready { ReaderReady text.now c }
+    requires table_size_in_bounds { table_size ≤ length table.old }
     ensures { OneRead text.now known.now table.old mentioned.old c elements result
         table.new mentioned.new }
 {
@@ -114,12 +118,13 @@ fn one(
 fn more(
     text: &[u8],
     known: &Known,
-    table: &mut [u8; TABLE_SIZE],
+    table: &mut [u8],
     mentioned: &mut Mentioned,
     c: Cursor,
     elements: Elements,
 ) -> Option<Cursor>
-    requires { ReaderReady text.now c }
+    requires reader_ready { ReaderReady text.now c }
+    requires table_size_in_bounds { table_size ≤ length table.old }
     ensures { MoreRead text.now known.now table.old mentioned.old c elements result
         table.new mentioned.new }
 {
@@ -151,12 +156,13 @@ fn row_end(from: usize, d: Cursor) -> Cursor
 pub fn row(
     text: &[u8],
     known: &Known,
-    table: &mut [u8; TABLE_SIZE],
+    table: &mut [u8],
     mentioned: &mut Mentioned,
     c: Cursor,
     elements: Elements,
 ) -> Option<Cursor>
-    requires { ReaderReady text.now c }
+    requires reader_ready { ReaderReady text.now c }
+    requires table_size_in_bounds { table_size ≤ length table.old }
     ensures { RowsRead text.now known.now table.old mentioned.old c elements result
         table.new mentioned.new }
 {

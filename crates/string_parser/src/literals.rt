@@ -1,6 +1,7 @@
 // Literals: their bytes go to the literal bytes of the table, behind those written before.
 // Assumes nothing.
 ghost use Rattle.std.specs.Prelude.{not, ℕ, ◌≤◌, ◌<◌, eqb, length, drop};
+ghost use Rattle.base.specs.Current.{table_size};
 ghost use Rattle.cards.specs.Bytes.{quote};
 ghost use Rattle.syntax.specs.Lexemes.{run_length};
 ghost use Rattle.symbols.specs.Bounds.{far_enough};
@@ -10,7 +11,6 @@ ghost use Rattle.lexer.specs.Places.{CountedBytes};
 ghost use Rattle.string_parser.specs.Elements.{LiteralWritable, LiteralWritten, LiteralRead};
 
 use crate::put;
-use encoding::TABLE_SIZE;
 use encoding::cell_kinds::LITERAL;
 use encoding::cells::Cell;
 use lexer::begins_at;
@@ -27,14 +27,9 @@ fn literal_length(text: &[u8], at: usize) -> usize
 }
 
 // writes the n bytes behind the quote at the cursor as a literal; the cursor goes size further
-fn put_literal(
-    text: &[u8],
-    table: &mut [u8; TABLE_SIZE],
-    c: Cursor,
-    n: usize,
-    size: usize,
-) -> Cursor
-    requires { LiteralWritable text.now c n size }
+fn put_literal(text: &[u8], table: &mut [u8], c: Cursor, n: usize, size: usize) -> Cursor
+    requires literal_writable { LiteralWritable text.now c n size }
+    requires table_size_in_bounds { table_size ≤ length table.old }
     ensures { LiteralWritten text.now table.old c n size table.new result }
 {
     let from = c.at + 1;
@@ -54,9 +49,10 @@ fn put_literal(
 }
 
 // a literal at its first quote: `""` behind it is one quote, else it goes up to the next quote
-pub fn literal(text: &[u8], table: &mut [u8; TABLE_SIZE], c: Cursor) -> Cursor
+pub fn literal(text: &[u8], table: &mut [u8], c: Cursor) -> Cursor
     requires at_in_bounds { (c.at < length text.now) × (length text.now ≤ longest_text) }
     requires counts_in_bounds { (c.elements ≤ far_enough) × (c.literals ≤ far_enough) }
+    requires table_size_in_bounds { table_size ≤ length table.old }
     ensures { (m : Mentioned) → ReaderReady text.now c → LiteralRead text.now table.old m c table.new result }
 {
     let at = c.at + 1;

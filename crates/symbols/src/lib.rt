@@ -23,7 +23,7 @@ ghost use Rattle.symbols.specs.Environment.{key_place, keys_have};
 
 use base::{ELEMENTS, ITEMS, LITERALS};
 use encoding::cells::Cell;
-use encoding::{ELEMENTS_AT, ITEMS_AT, LITERALS_AT, TABLE_CELL, TABLE_SIZE};
+use encoding::{ELEMENTS_AT, ITEMS_AT, LITERALS_AT, TABLE_CELL};
 use numbers::Int;
 use tags::Tag;
 
@@ -115,8 +115,8 @@ pub fn put_cell(table: &mut [u8], at: usize, cell: Cell)
 }
 
 // writes cell k of a region with so many cells; of those behind the last one nothing
-fn put_in(table: &mut [u8; TABLE_SIZE], from: usize, most: usize, k: usize, cell: Cell)
-    requires { from + 8 * most ≤ table_size }
+fn put_in(table: &mut [u8], from: usize, most: usize, k: usize, cell: Cell)
+    requires { from + 8 * most ≤ length table.old }
     ensures { table.new ≡ with_cell table.old from most k (cell_meaning cell) }
 {
     if k < most {
@@ -125,22 +125,25 @@ fn put_in(table: &mut [u8; TABLE_SIZE], from: usize, most: usize, k: usize, cell
 }
 
 // writes item k; of those behind the last row nothing
-pub fn put_item(table: &mut [u8; TABLE_SIZE], k: usize, cell: Cell)
+pub fn put_item(table: &mut [u8], k: usize, cell: Cell)
+    requires { table_size ≤ length table.old }
     ensures { table.new ≡ with_item table.old k (cell_meaning cell) }
 {
     put_in(table, ITEMS_AT, ITEMS, k, cell);
 }
 
 // writes element k; of those behind the last row nothing
-pub fn put_element(table: &mut [u8; TABLE_SIZE], k: usize, cell: Cell)
+pub fn put_element(table: &mut [u8], k: usize, cell: Cell)
+    requires { table_size ≤ length table.old }
     ensures { table.new ≡ with_element table.old k (cell_meaning cell) }
 {
     put_in(table, ELEMENTS_AT, ELEMENTS, k, cell);
 }
 
 // writes literal bytes from byte l on; of those behind the last one nothing
-pub fn put_literals(table: &mut [u8; TABLE_SIZE], l: usize, bytes: &[u8])
-    requires { (l ≤ far_enough) × (length bytes.now ≤ far_enough) }
+pub fn put_literals(table: &mut [u8], l: usize, bytes: &[u8])
+    requires table_size_in_bounds { table_size ≤ length table.old }
+    requires l_le_far_enough { (l ≤ far_enough) × (length bytes.now ≤ far_enough) }
     ensures { table.new ≡ with_literals table.old l bytes.now }
 {
     let from = l.min(LITERALS);

@@ -6,11 +6,11 @@ use Rattle.std.proofs.lemmas.Result.{err_from_is_err_and}
 use Rattle.validation.specs.RefusalNumbers.{refusal_number_some}
 use Rattle.deck_reader.proofs.read_deck.Goals as goal
 
-pub judge_deck-requires : goal.judge_deck-requires
-judge_deck-requires c = nothing_held _ c.new.ensures refl refl
+pub judge_deck-requires-clause-symbols_hold : goal.judge_deck-requires-clause-symbols_hold
+judge_deck-requires-clause-symbols_hold c = nothing_held _ c.new.ensures refl refl
 
-pub write_table-requires : goal.write_table-requires
-write_table-requires c =
+pub write_table-requires-clause-deck_accepted : goal.write_table-requires-clause-deck_accepted
+write_table-requires-clause-deck_accepted c =
     accepted_whole c.args.deck.short (c.in_ok-judge_deck.ensures.accepts refl)
 
 pub returns : goal.returns

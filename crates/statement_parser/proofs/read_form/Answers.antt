@@ -31,12 +31,12 @@ use Rattle.statement_parser.proofs.read_form.Goals as goal
 pub skip-d-requires : goal.skip-d-requires
 skip-d-requires c =
     let lead = c.leading-lead in
-    omega (arith, lead_fits c.args.text.now c.args.c lead.result lead.ensures c.requires.at, c.requires.text_size)
+    omega (arith, lead_fits c.args.text.now c.args.c lead.result lead.ensures c.requires.starts.at, c.requires.starts.text_size)
 
 -- behind the keyword the cursor is ready, and what the form of its kind reads is the statement
 module _ (c : After-skip-d) where
   ready : ReaderReady c.args.text.now c.skip-d.result
-  ready = lead_ready c.leading-lead.result c.requires c.leading-lead.ensures c.skip-d.ensures
+  ready = lead_ready c.leading-lead.result c.requires.starts c.leading-lead.ensures c.skip-d.ensures
 
   of_kind : {table t : List ℕ} {m : Mentioned} (kind : StatementKind) → kind_of c.leading-lead.result.kind ≡ kind → (q : Form)
       → FormAt
@@ -44,11 +44,11 @@ module _ (c : After-skip-d) where
       c.args.text.now table c.args.mentioned.now c.skip-d.result q t m
       → StatementFormRead c.args.text.now c.args.known.now table c.args.mentioned.now c.args.c q t m
   of_kind =
-      of_lead c.leading-lead.result c.requires c.leading-lead.ensures c.skip-d.ensures
+      of_lead c.leading-lead.result c.requires.starts c.leading-lead.ensures c.skip-d.ensures
       c.args.known.now
 
-pub replacement_form-requires : goal.replacement_form-requires
-replacement_form-requires c = ready (goal.at.replacement_form-requires c).After-skip-d
+pub replacement_form-requires-clause-reader_ready : goal.replacement_form-requires-clause-reader_ready
+replacement_form-requires-clause-reader_ready c = ready (goal.at.replacement_form-requires-clause-reader_ready c).After-skip-d
 
 pub numbers_form-requires : goal.numbers_form-requires
 numbers_form-requires c = ready (goal.at.numbers_form-requires c).After-skip-d
@@ -62,17 +62,17 @@ target_form-requires c = ready (goal.at.target_form-requires c).After-skip-d
 pub if_form-requires : goal.if_form-requires
 if_form-requires c = ready (goal.at.if_form-requires c).After-skip-d
 
-pub scan_form-requires : goal.scan_form-requires
-scan_form-requires c = ready (goal.at.scan_form-requires c).After-skip-d
+pub scan_form-requires-clause-reader_ready : goal.scan_form-requires-clause-reader_ready
+scan_form-requires-clause-reader_ready c = ready (goal.at.scan_form-requires-clause-reader_ready c).After-skip-d
 
-pub scan_form-requires-in-Backscan : goal.scan_form-requires-in-Backscan
-scan_form-requires-in-Backscan c = ready (goal.at.scan_form-requires-in-Backscan c).After-skip-d
+pub scan_form-requires-in-Backscan-clause-reader_ready : goal.scan_form-requires-in-Backscan-clause-reader_ready
+scan_form-requires-in-Backscan-clause-reader_ready c = ready (goal.at.scan_form-requires-in-Backscan-clause-reader_ready c).After-skip-d
 
 pub input_form-requires : goal.input_form-requires
 input_form-requires c = ready (goal.at.input_form-requires c).After-skip-d
 
-pub output_form-requires : goal.output_form-requires
-output_form-requires c = ready (goal.at.output_form-requires c).After-skip-d
+pub output_form-requires-clause-reader_ready : goal.output_form-requires-clause-reader_ready
+output_form-requires-clause-reader_ready c = ready (goal.at.output_form-requires-clause-reader_ready c).After-skip-d
 
 pub target_form-requires-in-Routine : goal.target_form-requires-in-Routine
 target_form-requires-in-Routine c = ready (goal.at.target_form-requires-in-Routine c).After-skip-d

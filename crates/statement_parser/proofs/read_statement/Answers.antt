@@ -28,8 +28,8 @@ returns-then-not-is_name c =
           (sym c.is_name.ensures ∙ c.if-not-is_name.true);
     }
 
-pub read_form-requires-2 : goal.read_form-requires-2
-read_form-requires-2 c = let p = c.requires in starts_labelled p.starts p.names_value c.note-d.ensures
+pub read_form-requires-2-clause-starts : goal.read_form-requires-2-clause-starts
+read_form-requires-2-clause-starts c = let p = c.requires in starts_labelled p.starts p.names_value c.note-d.ensures
 
 pub returns : goal.returns
 returns c =

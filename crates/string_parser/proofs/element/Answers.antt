@@ -12,17 +12,21 @@ pub literal-requires : goal.literal-requires
 literal-requires c =
     let one = begins_room (34 ∷ []) (drop c.args.c.at c.args.text.now) (sym c.if-stands_at.ensures) in
     let size = length-drop c.args.c.at c.args.text.now in
-    record { at_in_bounds = (omega arith, c.requires.text_size); counts_in_bounds = (omega arith, omega arith) }
+    record {
+      at_in_bounds = (omega arith, c.requires.reader_ready.text_size);
+      counts_in_bounds = (omega arith, omega arith);
+      table_size_in_bounds = c.requires.table_size_in_bounds;
+    }
 
 pub returns-then-stands_at : goal.returns-then-stands_at
 returns-then-stands_at c =
     let a = c.args in
-    element_literal (places_in a.known.now) (role_of a.role) c.requires (sym c.if-stands_at.ensures)
-    (c.literal.ensures a.mentioned.now c.requires)
+    element_literal (places_in a.known.now) (role_of a.role) c.requires.reader_ready (sym c.if-stands_at.ensures)
+    (c.literal.ensures a.mentioned.now c.requires.reader_ready)
 
 pub text_call-requires : goal.text_call-requires
 unfolding bytes
-text_call-requires c = word_ready c.args.text.now (bytes "STRING(") c.args.c c.requires c.in-Some.ensures
+text_call-requires c = word_ready c.args.text.now (bytes "STRING(") c.args.c c.requires.reader_ready c.in-Some.ensures
 
 pub returns-in_err-cell : goal.returns-in_err-cell
 unfolding bytes
@@ -30,7 +34,7 @@ returns-in_err-cell c =
     let a = c.args in
     let call = word_passed a.text.now (bytes "STRING(") a.c c.in-Some.ensures in
     one_written None (c.from_residual.ensures, refl)
-    (element_text (places_in a.known.now) (role_of a.role) c.requires (sym c.if-stands_at.ensures) None call.1 call.0 c.in_err-cell.ensures)
+    (element_text (places_in a.known.now) (role_of a.role) c.requires.reader_ready (sym c.if-stands_at.ensures) None call.1 call.0 c.in_err-cell.ensures)
 
 pub returns-in-Some : goal.returns-in-Some
 unfolding bytes
@@ -39,7 +43,7 @@ returns-in-Some c =
     let call = word_passed a.text.now (bytes "STRING(") a.c c.in-Some.ensures in
     let q = c.put.ensures in
     one_written (Some (c.in_ok-cell.cell, c.in_ok-cell.d)) (ap Some q.0, q.1)
-    (element_text (places_in a.known.now) (role_of a.role) c.requires (sym c.if-stands_at.ensures)
+    (element_text (places_in a.known.now) (role_of a.role) c.requires.reader_ready (sym c.if-stands_at.ensures)
     (Some (c.in_ok-cell.cell, c.in_ok-cell.d)) call.1 call.0 c.in_ok-cell.ensures)
 
 pub returns-in_err-cell-2 : goal.returns-in_err-cell-2
@@ -47,7 +51,7 @@ unfolding bytes
 returns-in_err-cell-2 c =
     let a = c.args in
     one_written None (c.from_residual-in_err-cell-2.ensures, refl)
-    (element_part (places_in a.known.now) (role_of a.role) c.requires (sym c.if-stands_at.ensures) None
+    (element_part (places_in a.known.now) (role_of a.role) c.requires.reader_ready (sym c.if-stands_at.ensures) None
     (word_none a.text.now (bytes "STRING(") a.c c.in_default.ensures) c.in_err-cell-2.ensures)
 
 pub returns : goal.returns
@@ -56,5 +60,5 @@ returns c =
     let a = c.args in
     let q = c.put-2.ensures in
     one_written (Some (c.in_ok-cell-2.cell, c.in_ok-cell-2.d)) (ap Some q.0, q.1)
-    (element_part (places_in a.known.now) (role_of a.role) c.requires (sym c.if-stands_at.ensures)
+    (element_part (places_in a.known.now) (role_of a.role) c.requires.reader_ready (sym c.if-stands_at.ensures)
     (Some (c.in_ok-cell-2.cell, c.in_ok-cell-2.d)) (word_none a.text.now (bytes "STRING(") a.c c.in_default.ensures) c.in_ok-cell-2.ensures)

@@ -9,7 +9,7 @@ use Rattle.string_parser.proofs.row.Goals as goal
 pub returns-then-nothing_here : goal.returns-then-nothing_here
 returns-then-nothing_here c =
     row-whole c.args.elements c.args.known.now _
-    (row_nothing (shown c.args.elements) (read_one c.args.elements (places_in c.args.known.now)) c.requires
+    (row_nothing (shown c.args.elements) (read_one c.args.elements (places_in c.args.known.now)) c.requires.reader_ready
     (sym c.if-nothing_here.ensures))
 
 pub returns-in_err-d : goal.returns-in_err-d
@@ -23,8 +23,8 @@ returns-in_err-d c =
           c.in_err-d.ensures.answer;
     }))
 
-pub more-requires : goal.more-requires
-more-requires c = c.in_ok-d.ensures.answer.gets.ready
+pub more-requires-clause-reader_ready : goal.more-requires-clause-reader_ready
+more-requires-clause-reader_ready c = c.in_ok-d.ensures.answer.gets.ready
 
 pub returns-in_err-e : goal.returns-in_err-e
 returns-in_err-e c =

@@ -13,10 +13,10 @@ returns-in-None c = skipped_numbered (not-false _ c.if-not-e.false) c.in-None.is
 
 pub slice_bounds-judge_packed-end : goal.slice_bounds-judge_packed-end
 slice_bounds-judge_packed-end c =
-    let q = c.in-Some.packed in sym (length-take-le q.length c.args.text.now (c.requires q c.in-Some.is).0)
+    let q = c.in-Some.packed in sym (length-take-le q.length c.args.text.now (c.requires.entered q c.in-Some.is).0)
 
-pub judge_packed-requires : goal.judge_packed-requires
-judge_packed-requires c = (c.requires c.in-Some.packed c.in-Some.is).1 (not-false _ c.if-not-e.false)
+pub judge_packed-requires-clause-readied : goal.judge_packed-requires-clause-readied
+judge_packed-requires-clause-readied c = (c.requires.entered c.in-Some.packed c.in-Some.is).1 (not-false _ c.if-not-e.false)
 
 pub returns-in-Some : goal.returns-in-Some
 returns-in-Some c = packed_numbered (not-false _ c.if-not-e.false) c.in-Some.is c.judge_packed.ensures

@@ -17,9 +17,10 @@ returns-then-is_misplaced c label w =
 
 pub read_statement-form-requires : goal.read_statement-form-requires
 read_statement-form-requires c =
-    let q = c.requires in record {
+    let q = c.requires.readied in record {
       starts = starts q.holds q.small (omega (arith, q.room)) c.start-c.ensures;
       names_value = ap (λ d. d.names) c.start-c.ensures;
+      table_size_in_bounds = c.requires.table_size_in_bounds;
     }
 
 pub returns-in_err-d : goal.returns-in_err-d
@@ -37,7 +38,7 @@ returns-in_err-d c =
 
 pub judge_statement-requires : goal.judge_statement-requires
 judge_statement-requires c =
-    let q = c.requires in
+    let q = c.requires.readied in
     formed_judgeable q (formed_case (rw c.start-c.ensures at (c.read_statement-form.ensures q.label q.keyed)) c.in_ok-d.ensures.ok_part).formed
 
 pub returns : goal.returns

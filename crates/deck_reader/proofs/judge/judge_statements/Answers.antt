@@ -1,5 +1,5 @@
 -- `deck_reader::judge::judge_statements`: entry after entry. The invariant: the deck is judged as the rest is from the environment.
-use mathlib.Core.Path.{◌≡◌, sym, ap, subst, ◌∙◌}
+use mathlib.Core.Path.{◌≡◌, refl, sym, ap, subst, ◌∙◌}
 use native.Mathlib.Omega.{arith}
 use Rattle.std.specs.Prelude.{Ok, Err}
 use Rattle.std.proofs.Common.{rules}
@@ -12,14 +12,14 @@ use Rattle.deck_reader.specs.Verdicts.{Verdict}
 use Rattle.deck_reader.proofs.judge.judge_statements.Goals as goal
 
 pub loop-from-init : goal.loop-from-init
-loop-from-init c = (judging_none c.requires, search rules)
+loop-from-init c = (judging_none c.requires.symbols_hold, search rules, refl)
 
 pub gather-e-requires : goal.gather-e-requires
 gather-e-requires c =
     record { start = c.loop-from-test.true; small = c.args.deck.short; size = c.loop-from.invariant.1 }
 
-pub judge_gathered-judged-requires : goal.judge_gathered-judged-requires
-judge_gathered-judged-requires c = entered c.gather-e.ensures (judging_held c.loop-from.invariant.0) c.args.deck.short
+pub judge_gathered-judged-requires-clause-entered : goal.judge_gathered-judged-requires-clause-entered
+judge_gathered-judged-requires-clause-entered c = entered c.gather-e.ensures (judging_held c.loop-from.invariant.0) c.args.deck.short
 
 pub returns-in_err-map_err : goal.returns-in_err-map_err
 returns-in_err-map_err c =
@@ -45,8 +45,11 @@ loop-from-smaller c =
 
 pub loop-from-preserved : goal.loop-from-preserved
 loop-from-preserved c =
-    let was : c.judge_gathered-judged.result ≡ Ok tt = search rules in
-    (judging_more c.loop-from.invariant.0 (entry-judged c.gather-e.ensures c.judge_gathered-judged.ensures) (ap judged_number was), c.gather-e.ensures.size)
+    let was : c.judge_gathered-judged.result ≡ Ok tt = search rules in (
+      judging_more c.loop-from.invariant.0 (entry-judged c.gather-e.ensures c.judge_gathered-judged.ensures) (ap judged_number was),
+      c.gather-e.ensures.size,
+      c.judge_gathered-judged.auto.table ∙ c.loop-from.invariant.2,
+    )
 
 pub returns : goal.returns
 returns c =

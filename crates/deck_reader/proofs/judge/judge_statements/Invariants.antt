@@ -8,7 +8,7 @@ use Rattle.deck_reader.proofs.judge.judge_statements.Given as goal
 
 abbrev pub invariant-loop-from : goal.invariant-loop-from
 invariant-loop-from l =
-    DeckJudging l.deck.bytes.now l.symbols l.from l.card × (length l.text ≡ longest_text)
+    DeckJudging l.deck.bytes.now l.symbols l.from l.card × (length l.text ≡ longest_text) × (length l.table ≡ length l.initial.table)
 
 abbrev pub decreases-loop-from : goal.decreases-loop-from
 decreases-loop-from l =

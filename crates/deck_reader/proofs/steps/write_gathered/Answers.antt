@@ -13,13 +13,13 @@ returns-in-None c = record { skips = λ _. (refl, refl, refl, refl); writes = λ
 
 pub slice_bounds-write_packed-end : goal.slice_bounds-write_packed-end
 slice_bounds-write_packed-end c =
-    let q = c.in-Some.packed in sym (length-take-le q.length c.args.text.now (c.requires.1 q c.in-Some.is).1)
+    let q = c.in-Some.packed in sym (length-take-le q.length c.args.text.now (c.requires.counts_small.1 q c.in-Some.is).1)
 
-pub write_packed-requires : goal.write_packed-requires
-write_packed-requires c =
+pub write_packed-requires-clause-counts_small : goal.write_packed-requires-clause-counts_small
+write_packed-requires-clause-counts_small c =
     let q = c.in-Some.packed in
-    let w = c.requires.1 q c.in-Some.is in
-    (c.requires.0, omega (arith, length-take-le q.length c.args.text.now w.1, w.0), w.2)
+    let w = c.requires.counts_small.1 q c.in-Some.is in
+    (c.requires.counts_small.0, omega (arith, length-take-le q.length c.args.text.now w.1, w.0), w.2)
 
 pub returns-in-Some : goal.returns-in-Some
 returns-in-Some c =

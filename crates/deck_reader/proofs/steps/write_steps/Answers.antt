@@ -6,24 +6,27 @@ use Rattle.deck_reader.specs.StepsLaws.{names_kept, ongoing_none, ongoing_small,
 use Rattle.deck_reader.proofs.steps.write_steps.Goals as goal
 
 pub loop-p-init : goal.loop-p-init
-loop-p-init c = (refl, λ w. ongoing_none c.args.table.now w)
+loop-p-init c = (refl, (λ w. ongoing_none c.args.table.now w), refl)
 
-pub write_entry-p-requires : goal.write_entry-p-requires
-write_entry-p-requires c =
-    let w = c.requires in
+pub write_entry-p-requires-clause-counts_small : goal.write_entry-p-requires-clause-counts_small
+write_entry-p-requires-clause-counts_small c =
+    let w = c.requires.deck_accepted in
     (ongoing_small (c.loop-p.invariant.1 w) w.fits c.loop-p-test.true c.args.deck.short, c.loop-p-test.true)
 
 pub loop-p-smaller : goal.loop-p-smaller
 loop-p-smaller c =
-    let w = c.requires in
+    let w = c.requires.deck_accepted in
     let i = c.loop-p.invariant in
     let m = ongoing_more (i.1 w) (names_kept w.names i.0) c.write_entry-p.ensures in omega (arith, m.1, (i.1 w).inside, m.0.inside)
 
 pub loop-p-preserved : goal.loop-p-preserved
 loop-p-preserved c =
     let i = c.loop-p.invariant in
-    let e = c.write_entry-p.ensures in
-    (e.kept ∙ ap (λ k. next_at k c.write_entry-p.new.known.next) i.0, λ w. (ongoing_more (i.1 w) (names_kept w.names i.0) e).0)
+    let e = c.write_entry-p.ensures in (
+      e.kept ∙ ap (λ k. next_at k c.write_entry-p.new.known.next) i.0,
+      (λ w. (ongoing_more (i.1 w) (names_kept w.names i.0) e).0),
+      c.write_entry-p.auto.table ∙ i.2,
+    )
 
 pub returns : goal.returns
 returns c =

@@ -10,6 +10,7 @@ abbrev pub invariant-loop-p : goal.invariant-loop-p
 invariant-loop-p l =
     (l.known ≡ next_at l.initial.known l.known.next)
     × ((w : DeckAccepted l.deck.bytes.now l.initial.known) → Ongoing l.deck.bytes.now l.initial.table w.whole l.p l.table)
+    × (length l.table ≡ length l.initial.table)
 
 abbrev pub decreases-loop-p : goal.decreases-loop-p
 decreases-loop-p l =

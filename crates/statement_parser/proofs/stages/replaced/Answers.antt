@@ -36,10 +36,10 @@ module _ (c : After-row) where
 pub returns-in_default : goal.returns-in_default
 returns-in_default c =
     let a = c.args in
-    stage_got _ _ _ refl (replaced_not a.known.now a.from c.requires.0 (mark_none a.text.now 61 a.c c.in_default.ensures))
+    stage_got _ _ _ refl (replaced_not a.known.now a.from c.requires.following.0 (mark_none a.text.now 61 a.c c.in_default.ensures))
 
-pub row-requires : goal.row-requires
-row-requires c = mark_ready c.args.text.now 61 c.args.c c.requires.0 c.in-Some.ensures
+pub row-requires-clause-reader_ready : goal.row-requires-clause-reader_ready
+row-requires-clause-reader_ready c = mark_ready c.args.text.now 61 c.args.c c.requires.following.0 c.in-Some.ensures
 
 pub returns-in_err-d : goal.returns-in_err-d
 returns-in_err-d c =

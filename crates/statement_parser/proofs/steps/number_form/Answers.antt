@@ -17,8 +17,8 @@ returns-in_err-e c =
     form_lost c.from_residual-in_err-e.ensures
     (number_open a.known.now p.ensures.answer (mark_none a.text.now 61 p.d c.in_err-e.ensures))
 
-pub assigned-requires : goal.assigned-requires
-assigned-requires c =
+pub assigned-requires-clause-reader_ready : goal.assigned-requires-clause-reader_ready
+assigned-requires-clause-reader_ready c =
     mark_ready c.args.text.now 61 c.in_ok-place.d c.in_ok-place.ensures.answer.ready c.in_ok-e.ensures
 
 pub returns : goal.returns

@@ -17,7 +17,7 @@ returns-in_err-left c =
     let a = c.args in
     let begun = begun_row scan_kind.number c.number-flag.result in
     form_ends c.from_residual.ensures
-    (scan-read a.known.now (direction_meaning a.direction) c.requires None None None None None None {t₃ = a.table.now} {m₃ = a.mentioned.now}
+    (scan-read a.known.now (direction_meaning a.direction) c.requires.reader_ready None None None None None None {t₃ = a.table.now} {m₃ = a.mentioned.now}
     {m₅ = a.mentioned.now}
     (λ t.
     from_draft (ap (λ n. begun_as scan_kind.number n a.c) c.number-flag.ensures) (part_stage a.known.now begun (Some Reference) None c.in_err-left.ensures t)) refl
@@ -30,13 +30,13 @@ returns-in_err-open c =
     let begun = begun_row scan_kind.number c.number-flag.result in
     let row = draft_left begun l.left in
     form_ends c.from_residual-in_err-open.ensures
-    (scan-read a.known.now (direction_meaning a.direction) c.requires (Some (row, l.d)) None None None None None {t₃ = a.table.now} {m₃ = a.mentioned.now} {m₅ = a.mentioned.now}
+    (scan-read a.known.now (direction_meaning a.direction) c.requires.reader_ready (Some (row, l.d)) None None None None None {t₃ = a.table.now} {m₃ = a.mentioned.now} {m₅ = a.mentioned.now}
     (λ t.
     from_draft (ap (λ n. begun_as scan_kind.number n a.c) c.number-flag.ensures) (part_stage a.known.now begun (Some Reference) (Some (l.left, l.d)) l.ensures t))
     (ap (λ (d : Option Cursor). rowed_at row d) c.in_err-open.ensures) unread refl unread (λ _. unread))
 
-pub stretch-requires : goal.stretch-requires
-stretch-requires c =
+pub stretch-requires-clause-reader_ready : goal.stretch-requires-clause-reader_ready
+stretch-requires-clause-reader_ready c =
     mark_ready c.args.text.now 91 c.in_ok-left.d c.in_ok-left.ensures.answer.ready c.in_ok-open.ensures
 
 pub returns-in_err-right : goal.returns-in_err-right
@@ -46,7 +46,7 @@ returns-in_err-right c =
     let begun = begun_row scan_kind.number c.number-flag.result in
     let row = draft_left begun l.left in
     form_ends c.from_residual-in_err-right.ensures
-    (scan-read a.known.now (direction_meaning a.direction) c.requires (Some (row, l.d)) (Some (row, c.in_ok-open.open)) None None None None
+    (scan-read a.known.now (direction_meaning a.direction) c.requires.reader_ready (Some (row, l.d)) (Some (row, c.in_ok-open.open)) None None None None
     {m₅ = a.mentioned.now}
     (λ t.
     from_draft (ap (λ n. begun_as scan_kind.number n a.c) c.number-flag.ensures) (part_stage a.known.now begun (Some Reference) (Some (l.left, l.d)) l.ensures t))
@@ -64,15 +64,15 @@ returns-in_err-close c =
     let row = draft_left begun l.left in
     let scan = draft_right row row.kind r.right in
     form_ends c.from_residual-in_err-close.ensures
-    (scan-read a.known.now (direction_meaning a.direction) c.requires (Some (row, l.d)) (Some (row, c.in_ok-open.open)) (Some (scan, r.e)) None None None
+    (scan-read a.known.now (direction_meaning a.direction) c.requires.reader_ready (Some (row, l.d)) (Some (row, c.in_ok-open.open)) (Some (scan, r.e)) None None None
     {m₅ = a.mentioned.now}
     (λ t.
     from_draft (ap (λ n. begun_as scan_kind.number n a.c) c.number-flag.ensures) (part_stage a.known.now begun (Some Reference) (Some (l.left, l.d)) l.ensures t))
     (ap (λ (d : Option Cursor). rowed_at row d) c.in_ok-open.ensures) (r.ensures row)
     (ap (λ (d : Option Cursor). rowed_at scan d) c.in_err-close.ensures) unread (λ _. unread))
 
-pub replaced-requires : goal.replaced-requires
-replaced-requires c =
+pub replaced-requires-clause-following : goal.replaced-requires-clause-following
+replaced-requires-clause-following c =
     let text = c.args.text.now in
     let l = c.in_ok-left in
     let r = c.in_ok-right.ensures (draft_left (begun_row scan_kind.number c.number-flag.result) l.left) in
@@ -91,7 +91,7 @@ returns-in_err-row c =
     let row = draft_left begun l.left in
     let scan = draft_right row row.kind r.right in
     form_ends c.from_residual-in_err-row.ensures
-    (scan-read a.known.now (direction_meaning a.direction) c.requires (Some (row, l.d)) (Some (row, c.in_ok-open.open)) (Some (scan, r.e))
+    (scan-read a.known.now (direction_meaning a.direction) c.requires.reader_ready (Some (row, l.d)) (Some (row, c.in_ok-open.open)) (Some (scan, r.e))
     (Some (scan, c.in_ok-close.close)) None None
     (λ t.
     from_draft (ap (λ n. begun_as scan_kind.number n a.c) c.number-flag.ensures) (part_stage a.known.now begun (Some Reference) (Some (l.left, l.d)) l.ensures t))
@@ -108,7 +108,7 @@ returns-in_err-branch c =
     let row = draft_left begun l.left in
     let scan = draft_right row row.kind r.right in
     form_ends c.from_residual-in_err-branch.ensures
-    (scan-read a.known.now (direction_meaning a.direction) c.requires (Some (row, l.d)) (Some (row, c.in_ok-open.open)) (Some (scan, r.e))
+    (scan-read a.known.now (direction_meaning a.direction) c.requires.reader_ready (Some (row, l.d)) (Some (row, c.in_ok-open.open)) (Some (scan, r.e))
     (Some (scan, c.in_ok-close.close)) (Some (p.row, p.f)) None
     (λ t.
     from_draft (ap (λ n. begun_as scan_kind.number n a.c) c.number-flag.ensures) (part_stage a.known.now begun (Some Reference) (Some (l.left, l.d)) l.ensures t))
@@ -126,7 +126,7 @@ returns c =
     let row = draft_left begun l.left in
     let scan = draft_right row row.kind r.right in
     form_ends c.ended.ensures
-    (scan-read a.known.now (direction_meaning a.direction) c.requires (Some (row, l.d)) (Some (row, c.in_ok-open.open)) (Some (scan, r.e))
+    (scan-read a.known.now (direction_meaning a.direction) c.requires.reader_ready (Some (row, l.d)) (Some (row, c.in_ok-open.open)) (Some (scan, r.e))
     (Some (scan, c.in_ok-close.close)) (Some (p.row, p.f)) (Some (draft_steps p.row b.branch.success b.branch.failure, b.g))
     (λ t.
     from_draft (ap (λ n. begun_as scan_kind.number n a.c) c.number-flag.ensures) (part_stage a.known.now begun (Some Reference) (Some (l.left, l.d)) l.ensures t))

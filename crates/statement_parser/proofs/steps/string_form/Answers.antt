@@ -18,7 +18,7 @@ pub returns-in_err-left : goal.returns-in_err-left
 returns-in_err-left c =
     let a = c.args in
     form_ends c.from_residual.ensures
-    (string-read a.known.now c.requires None None None (part_stage a.known.now begun None None c.in_err-left.ensures) refl unread)
+    (string-read a.known.now c.requires.reader_ready None None None (part_stage a.known.now begun None None c.in_err-left.ensures) refl unread)
 
 pub returns-in_err-sets : goal.returns-in_err-sets
 returns-in_err-sets c =
@@ -26,11 +26,11 @@ returns-in_err-sets c =
     let l = c.in_ok-left in
     let row = draft_left begun l.left in
     form_ends c.from_residual-in_err-sets.ensures
-    (string-read a.known.now c.requires (Some (row, l.d)) None None (part_stage a.known.now begun None (Some (l.left, l.d)) l.ensures)
+    (string-read a.known.now c.requires.reader_ready (Some (row, l.d)) None None (part_stage a.known.now begun None (Some (l.left, l.d)) l.ensures)
     (ap (λ (d : Option Cursor). rowed_at row d) c.in_err-sets.ensures) unread)
 
-pub stretch-requires : goal.stretch-requires
-stretch-requires c =
+pub stretch-requires-clause-reader_ready : goal.stretch-requires-clause-reader_ready
+stretch-requires-clause-reader_ready c =
     mark_ready c.args.text.now 61 c.in_ok-left.d c.in_ok-left.ensures.answer.ready c.in_ok-sets.ensures
 
 pub returns-in_err-right : goal.returns-in_err-right
@@ -39,7 +39,7 @@ returns-in_err-right c =
     let l = c.in_ok-left in
     let row = draft_left begun l.left in
     form_ends c.from_residual-in_err-right.ensures
-    (string-read a.known.now c.requires (Some (row, l.d)) (Some (row, c.in_ok-sets.sets)) None
+    (string-read a.known.now c.requires.reader_ready (Some (row, l.d)) (Some (row, c.in_ok-sets.sets)) None
     (part_stage a.known.now begun None (Some (l.left, l.d)) l.ensures) (ap (λ (d : Option Cursor). rowed_at row d) c.in_ok-sets.ensures)
     (c.in_err-right.ensures row))
 
@@ -50,6 +50,6 @@ returns c =
     let r = c.in_ok-right in
     let row = draft_left begun l.left in
     form_ends c.ended.ensures
-    (string-read a.known.now c.requires (Some (row, l.d)) (Some (row, c.in_ok-sets.sets))
+    (string-read a.known.now c.requires.reader_ready (Some (row, l.d)) (Some (row, c.in_ok-sets.sets))
     (Some (draft_right row row.kind r.right, r.e)) (part_stage a.known.now begun None (Some (l.left, l.d)) l.ensures)
     (ap (λ (d : Option Cursor). rowed_at row d) c.in_ok-sets.ensures) (r.ensures row))

@@ -8,8 +8,8 @@ use Rattle.base.specs.ListLaws.{begins_room}
 use Rattle.string_parser.specs.RowLaws.{literal_spelt, literal_quote, literal_run, literal_ends, literal_open}
 use Rattle.string_parser.proofs.literals.literal.Goals as goal
 
-pub put_literal-requires : goal.put_literal-requires
-put_literal-requires c =
+pub put_literal-requires-clause-literal_writable : goal.put_literal-requires-clause-literal_writable
+put_literal-requires-clause-literal_writable c =
     let two = begins_room (34 ∷ (34 ∷ [])) (drop (c.args.c.at + 1) c.args.text.now)
     (sym c.begins_at.ensures ∙ c.if-begins_at.true) in
     record {
