@@ -1,7 +1,9 @@
 -- 6, 7 and 8 of names mentioned one by one are those of document 01. Assumes nothing.
 use Rattle.std.specs.Prelude.{Bool, true, false, cond, ◌||◌, List, [], ◌∷◌, ◌++◌, ◌≡◌, ℕ, suc, ◌+◌, ◌≤◌, length, Result, Ok, Err, IfOk}
 use Rattle.std.specs.Bool.{beq}
+use Rattle.std.specs.Result.{is_err}
 use Rattle.std.proofs.Math.Path.{refl}
+use Rattle.std.proofs.lemmas.Bool.{false≢true}
 use Rattle.std.proofs.Common.{sym, ◌∙◌, ap, ap₂, subst, arith, append-nil, length-append}
 use Rattle.base.specs.Choice.{test_cases, cond_cases, or_pairs}
 use Rattle.base.specs.Lists.{any}
@@ -17,8 +19,9 @@ use Rattle.symbols.specs.Entries.{NameEntry, mention_of, declares_name, gather, 
 use Rattle.symbols.specs.Holding.{names_in}
 use Rattle.name_checks.specs.Declaring.{declared_in, undeclared_in, again}
 use Rattle.name_checks.specs.EnteringLaws.{enters_then}
-use Rattle.name_checks.specs.Judged.{names_of, names_number, first_number, NamesReady, NamesJudged}
+use Rattle.name_checks.specs.Judged.{names_of, names_number, first_number, NamesReady, NamesEntered, NamesJudged}
 use Rattle.name_checks.specs.NameLaws.{conflicts-is, conflicts-append, mentions_known}
+use Rattle.name_checks.specs.ShownLaws.{names_kept}
 use Rattle.name_checks.specs.Names.{Single, conflicts, enters, chosen_by, chosen_in, Enters}
 
 -- the names chosen are those declared, or those used
@@ -90,7 +93,7 @@ module _ (known : Known) (names : Names) (es : List NameEntry) (ready : NamesRea
 
   -- one of the first names has two purposes
   refused : (xs ys : List Mention) → xs ++ ys ≡ names_of es → length xs ≤ length es → (names' : Names) {e : Refusal}
-      → Enters names xs names' (Err e) → NamesJudged known names es names' (Err e)
+      → Enters names xs names' (Err e) → NamesEntered known names es names' (Err e)
   unfolding names_number
   refused xs ys all few names' {e} n =
       let clash : refusal_number e ≡ cond (conflicts ns xs) 6 0 = n.clash in
@@ -108,7 +111,7 @@ module _ (known : Known) (names : Names) (es : List NameEntry) (ready : NamesRea
       }
 
   -- a name declared has two purposes
-  pub names_refused : (names' : Names) {e : Refusal} → Enters names declared names' (Err e) → NamesJudged known names es names' (Err e)
+  pub names_refused : (names' : Names) {e : Refusal} → Enters names declared names' (Err e) → NamesEntered known names es names' (Err e)
   names_refused = refused declared used together (omega (arith, size))
 
   module _ (names'' names' : Names) (first : Enters names declared names'' (Ok tt)) where
@@ -116,14 +119,14 @@ module _ (known : Known) (names : Names) (es : List NameEntry) (ready : NamesRea
     all_entered {r} w = subst (λ l. Enters names l names' r) together (enters_then names names'' names' declared used (Ok tt) r first w)
 
     -- a name used has two purposes
-    pub used_refused : {e : Refusal} → Enters names'' used names' (Err e) → NamesJudged known names es names' (Err e)
+    pub used_refused : {e : Refusal} → Enters names'' used names' (Err e) → NamesEntered known names es names' (Err e)
     used_refused w =
         refused (names_of es) [] (append-nil (names_of es))
         (omega (arith, size, ap length together, length-append declared used)) names' (all_entered w)
 
     -- none has: the first of the numbers
     pub names_judged : Enters names'' used names' (Ok tt) → (r : Result (Unit {0}) Refusal) → judged_number r ≡ first_number known es
-        → NamesJudged known names es names' r
+        → NamesEntered known names es names' r
     unfolding names_number first_number
     names_judged w r e =
         let n = all_entered w in
@@ -149,3 +152,22 @@ module _ (known : Known) (names : Names) (es : List NameEntry) (ready : NamesRea
         always : {P : Type 0} (r : Result (Unit {0}) Refusal) → P → IfOk r (λ _. P)
         always (Ok x) p = p
         always (Err e) p = tt
+
+  -- where one of the numbers applies, the count put back leaves the names known before
+  pub judged_refused : (names' : Names) (r : Result (Unit {0}) Refusal) → NamesEntered known names es names' r → is_err r ≡ true
+      → NamesJudged known names es (record { keys = names'.keys; purposes = names'.purposes; count = names.count }) r
+  unfolding names_in
+  judged_refused names' (Ok x) n e = absurd (false≢true e)
+  judged_refused names' (Err x) n e =
+      record {
+        number = n.number;
+        few = omega arith;
+        more = omega arith;
+        keys_kept = n.keys_kept;
+        purposes_kept = n.purposes_kept;
+        extended = tt;
+        single = tt;
+        refused =
+            names_kept names.keys names.purposes names'.keys names'.purposes 0 names.count
+            (λ j h. n.keys_kept j (omega arith)) (λ j h. n.purposes_kept j (omega arith));
+      }

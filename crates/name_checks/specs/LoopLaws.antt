@@ -149,7 +149,7 @@ any_all f g m = any_paired f g (pairs m) ∙ ap (λ es. any f (gather g es)) (al
 
 -- names declared again, one by one
 module _ (f : Mention → Bool) (m : Entries) where
-  abbrev again_from : ℕ → Bool
+  abbrev pub again_from : ℕ → Bool
   again_from i = again f (gather declared_by (entries_left m i))
 
   again_turn : (i : ℕ) → i < entry_count m → again_from i ≡ (again_at f m i || again_from (i + 1))
@@ -162,7 +162,7 @@ module _ (f : Mention → Bool) (m : Entries) where
       (λ t. again f (cond t (mention_of x ∷ []) [] ++ behind)
       ≡ (cond t (f (mention_of x) || any (same_mention (mention_of x)) behind) false || again f behind)) (declares_name x) (λ _. refl) (λ _. refl)
 
-  again_end : (i : ℕ) → entry_count m ≤ i → again_from i ≡ false
+  pub again_end : (i : ℕ) → entry_count m ≤ i → again_from i ≡ false
   unfolding gather again
   again_end i h = ap (λ es. again f (gather declared_by es)) (from_none (entry_in m) (entry_count m) i h)
 

@@ -11,7 +11,7 @@ pub mod roles;
 ghost use Rattle.std.specs.Prelude.{◌≡◌};
 ghost use Rattle.validation.specs.RefusalNumbers.{judged_number};
 ghost use Rattle.name_checks.specs.Shown.{entries_in};
-ghost use Rattle.name_checks.specs.Judged.{NamesReady, NamesJudged, first_number};
+ghost use Rattle.name_checks.specs.Judged.{NamesReady, NamesEntered, NamesJudged, first_number};
 
 use declaring::{is_twice, is_undeclared};
 use entries::Entries;
@@ -20,10 +20,23 @@ use roles::has_clash;
 use symbols::known::{Known, Names};
 use validation::Refusal;
 
-// 6, 7 or 8 of the names mentioned; where none applies the new ones stand behind those known
+// 6, 7 or 8 of the names mentioned; where none applies the new ones stand behind those known, else those known are the ones before
 pub fn judge_names(known: &Known, names: &mut Names, entries: Entries) -> Result<(), Refusal>
     requires { NamesReady names.old (entries_in entries) }
     ensures { NamesJudged known.now names.old (entries_in entries.entry) names.new result }
+{
+    let count = names.count;
+    let judged = enter_and_judge(known, names, entries);
+    if judged.is_err() {
+        names.count = count;
+    }
+    judged
+}
+
+// the same, but where one applies new names may still be counted
+fn enter_and_judge(known: &Known, names: &mut Names, entries: Entries) -> Result<(), Refusal>
+    requires { NamesReady names.old (entries_in entries) }
+    ensures { NamesEntered known.now names.old (entries_in entries.entry) names.new result }
 {
     enter_names(names, entries, true)?;
     enter_names(names, entries, false)?;

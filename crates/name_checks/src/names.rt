@@ -37,11 +37,7 @@ fn enter_name(names: &mut Names, key: u64, purpose: Purpose) -> Result<(), Refus
 // puts the names declared, or those used, behind those known; one that clashes is told, and the others are put
 // kept: goes on behind a clash, since it promises the names behind one too: with `?` it would promise less
 // kept: declared is compared with what is_declared answers; an enum of the two would be turned back into that answer
-pub(crate) fn enter_names(
-    names: &mut Names,
-    entries: Entries,
-    declared: bool,
-) -> Result<(), Refusal>
+pub fn enter_names(names: &mut Names, entries: Entries, declared: bool) -> Result<(), Refusal>
     requires { names.old.count + length (chosen_in declared (entries_in entries)) ≤ names_room }
     ensures { Enters names.old (chosen_in declared (entries_in entries.entry)) names.new result }
 {

@@ -15,6 +15,19 @@ fn put4(rows: &mut [u8], at: usize, n: usize)
     rows[at..at + 4].copy_from_slice(&(n as u32).to_le_bytes());
 }
 
+// Row i of a pattern: kind 1 is a string with its part's ends, 2 a fixed filler with its length, 3 a free filler.
+// kept: kind and numbers as a row has them (C interface)
+pub fn put_row(rows: &mut [u8], i: usize, kind: u8, a: usize, b: usize)
+    requires i_in_bounds { (12 * i + 11 < length rows.old) × (i < 20) }
+    requires a_bound { (a < 2 ^ 32) × (b < 2 ^ 32) }
+    ensures { PutRow rows.old rows.new i (scan_row kind a b) }
+{
+    let at = ROW_SIZE * i;
+    rows[at] = kind;
+    put4(rows, at + 4, a);
+    put4(rows, at + 8, b);
+}
+
 // the kind and the two numbers that an element is in its row
 fn row_of(e: Element) -> (RowKind, usize, usize)
     requires { RowSmall e }
@@ -28,14 +41,11 @@ fn row_of(e: Element) -> (RowKind, usize, usize)
 }
 
 // Row i of a pattern is an element.
-pub fn put_row(rows: &mut [u8], i: usize, e: Element)
+pub fn put_row_of(rows: &mut [u8], i: usize, e: Element)
     requires i_in_bounds { (12 * i + 11 < length rows.old) × (i < 20) }
     requires small { RowSmall e }
     ensures { PutRow rows.old rows.new i e }
 {
-    let at = ROW_SIZE * i;
     let (kind, a, b) = row_of(e);
-    rows[at] = kind.number();
-    put4(rows, at + 4, a);
-    put4(rows, at + 8, b);
+    put_row(rows, i, kind.number(), a, b);
 }

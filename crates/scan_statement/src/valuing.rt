@@ -9,7 +9,7 @@ ghost use Rattle.scan_statement.specs.Patterns.{StringPutting, StringPut, ValueP
 ghost use Rattle.scan_statement.specs.Patterns.{ElementPutting, ElementPut, PatternPutting, AllBy};
 
 use crate::VALUES_SIZE;
-use crate::putting::put_row;
+use crate::putting::put_row_of;
 use base::{LONGEST, ROW};
 use decoder::{Element, PatternElement, Stretch};
 use evaluator::Memory;
@@ -28,11 +28,11 @@ fn put_string(rows: &mut [u8; ROWS_SIZE], i: usize, n: usize)
     ensures { StringPut rows.old rows.new i n }
 {
     if LONGEST < n {
-        put_row(rows, i, scan::Element::Fixed(n));
+        put_row_of(rows, i, scan::Element::Fixed(n));
         return;
     }
     let at = LONGEST * i;
-    put_row(rows, i, scan::Element::Part(at, at + n));
+    put_row_of(rows, i, scan::Element::Part(at, at + n));
 }
 
 // Row i is the value of an element of a string expression.
@@ -67,11 +67,11 @@ fn put_fixed(
 {
     let Some(length) = numbers::natural(z) else {
         names[i] = NONE;
-        put_row(rows, i, scan::Element::Part(0, 0));
+        put_row_of(rows, i, scan::Element::Part(0, 0));
         return 1;
     };
     names[i] = place as u8;
-    put_row(rows, i, scan::Element::Fixed(length));
+    put_row_of(rows, i, scan::Element::Fixed(length));
     0
 }
 
@@ -96,7 +96,7 @@ fn put_element(
         }
         PatternElement::Free(place) => {
             names[i] = place as u8;
-            put_row(rows, i, scan::Element::Free);
+            put_row_of(rows, i, scan::Element::Free);
             Ok(0)
         }
         PatternElement::Fixed(place, n) => {

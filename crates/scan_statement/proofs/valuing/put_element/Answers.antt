@@ -13,7 +13,7 @@ use Rattle.std.specs.Prelude.{Ok}
 use Rattle.scan_statement.specs.Putting.{RowSmall}
 use Rattle.scan_statement.specs.ElementLaws.{free_put, value_put}
 use Rattle.scan_statement.specs.Patterns.{ElementRowPut, ElementRowPutBy}
-use Rattle.scan_statement.proofs.valuing.put_element.Goals.{After-put_fixed, After-put_row, After-put_value}
+use Rattle.scan_statement.proofs.valuing.put_element.Goals.{After-put_fixed, After-put_row_of, After-put_value}
 use Rattle.scan_statement.proofs.valuing.put_element.Goals as goal
 
 pub put_value-requires : goal.put_value-requires
@@ -29,9 +29,9 @@ overflow_cast-names c =
     let holds = subst (PatternHolds c.requires.searched) c.in-Free.is c.requires.holds in
     record { fits = omega (arith, holds.place) }
 
-pub put_row-requires-clause-small : goal.put_row-requires-clause-small
+pub put_row_of-requires-clause-small : goal.put_row_of-requires-clause-small
 unfolding RowSmall
-put_row-requires-clause-small c = tt
+put_row_of-requires-clause-small c = tt
 
 pub length_value-z-requires : goal.length_value-z-requires
 length_value-z-requires c =
@@ -67,18 +67,18 @@ returns-in-Value c =
 
 pub returns-in-Free : goal.returns-in-Free
 returns-in-Free c =
-    let put = (goal.at.returns-in-Free c).After-put_row in
+    let put = (goal.at.returns-in-Free c).After-put_row_of in
     let a = c.args in
     let m = memory_in a.memory.store.now a.memory.state.now in
     let holds = subst (PatternHolds c.requires.searched) c.in-Free.is c.requires.holds in
     let place = c.in-Free.place in
-    let rows = c.put_row.new.rows in
+    let rows = c.put_row_of.new.rows in
     record {
       put =
           subst (λ (x : PatternElement). ElementRowPutBy (Ok 0) a.values.now a.values.now a.rows.now rows a.names.now
           (set a.names.now a.i place) a.i (valued_in current m (pattern_meaning a.table.now x)))
           (sym c.in-Free.is)
-          (free_put a.values.now a.rows.now rows a.names.now a.i m place holds.place c.put_row.ensures);
+          (free_put a.values.now a.rows.now rows a.names.now a.i m place holds.place c.put_row_of.ensures);
     }
 
 pub returns-in-Fixed : goal.returns-in-Fixed

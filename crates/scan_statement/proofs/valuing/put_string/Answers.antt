@@ -4,22 +4,22 @@ use Rattle.scan_statement.specs.Putting.{RowSmall}
 use Rattle.scan_statement.specs.PatternLaws.{row_long, row-string}
 use Rattle.scan_statement.proofs.valuing.put_string.Goals as goal
 
-pub put_row-requires-clause-small : goal.put_row-requires-clause-small
+pub put_row_of-requires-clause-small : goal.put_row_of-requires-clause-small
 unfolding RowSmall
-put_row-requires-clause-small c = omega (arith, c.requires.short)
+put_row_of-requires-clause-small c = omega (arith, c.requires.short)
 
-pub put_row-requires-2-clause-small : goal.put_row-requires-2-clause-small
+pub put_row_of-requires-2-clause-small : goal.put_row_of-requires-2-clause-small
 unfolding RowSmall
-put_row-requires-2-clause-small c = (omega (arith, c.requires.few), omega (arith, c.requires.few, c.if-n-gt-LONGEST.false))
+put_row_of-requires-2-clause-small c = (omega (arith, c.requires.few), omega (arith, c.requires.few, c.if-n-gt-LONGEST.false))
 
 pub returns-then-n-gt-LONGEST : goal.returns-then-n-gt-LONGEST
 returns-then-n-gt-LONGEST c =
     let a = c.args in
     λ values left w stands.
-    row_long values a.rows.now c.put_row.new.rows a.i a.n c.requires left w stands c.if-n-gt-LONGEST.true c.put_row.ensures
+    row_long values a.rows.now c.put_row_of.new.rows a.i a.n c.requires left w stands c.if-n-gt-LONGEST.true c.put_row_of.ensures
 
 pub returns : goal.returns
 returns c =
     let a = c.args in
     λ values left w stands.
-    row-string values a.rows.now c.put_row-2.new.rows a.i a.n c.requires left w stands c.if-n-gt-LONGEST.false c.put_row-2.ensures
+    row-string values a.rows.now c.put_row_of-2.new.rows a.i a.n c.requires left w stands c.if-n-gt-LONGEST.false c.put_row_of-2.ensures
