@@ -1,14 +1,14 @@
 -- What is printed for a deck that is refused, and for one that ran. Assumes nothing.
-use Rattle.std.specs.Prelude.{Bool, true, false, cond, ◌≡◌, refl, ℕ, ◌≤◌, ltb, take, drop, replicate}
-use mathlib.Core.List.{List, [], ◌++◌, append-nil}
+use Rattle.std.specs.Prelude.{Bool, true, false, cond, ◌≡◌, refl, ℕ, ◌≤◌, ltb, take}
+use mathlib.Core.List.{List, [], ◌++◌}
 use Rattle.std.proofs.Math.Path.{sym, ap}
-use Rattle.std.proofs.Common.{ap₂, subst, ◌∙◌, arith, take_all, le-ltb, drop_of_length-le}
+use Rattle.std.proofs.Common.{ap₂, subst, ◌∙◌, arith, take_all, le-ltb}
 use Rattle.std.proofs.Math.ListN.{length, get_or, length-take}
-use Rattle.std.proofs.lemmas.List.{take-append-le, length-replicate}
+use Rattle.std.proofs.lemmas.List.{take-append-le}
 use Rattle.base.specs.Current.{current}
 use Rattle.base.specs.Limits.{longest_deck}
 use Rattle.base.specs.Text.{bytes}
-use Rattle.encoding.specs.Buffers.{store_size, first_state, state_in}
+use Rattle.encoding.specs.Buffers.{store_size, state_in}
 use Rattle.calls.specs.Calls.{ReadCalled, read_by, read_judged, read_call, StartCalled, start_call, Buffers, buffers, given_in}
 use Rattle.calls.specs.Calls.{RunReturned, outcome_number, result_numbers}
 use Rattle.calls.specs.Demands.{observed_run, RunClaim, ListClaim, Linked, History, Demand3}
@@ -44,20 +44,6 @@ closing_parts o number steps notes = refl
 pub refused_line : (number card : ℕ) → bytes "REFUSED" ++ numbers_text number card 0 ≡ closing_line REFUSED number card 0
 unfolding outcome_word
 refused_line number card = closing_parts REFUSED number card 0
-
--- what is started of a store of zeros
-pub started_zeros : {state : List ℕ} → state ≡ first_state
-    → record { number = 0; store = replicate store_size 0; state = state } ≡ start_call (replicate store_size 0)
-unfolding start_call
-started_zeros {state} e =
-    let zeros : List ℕ = replicate store_size 0 in
-    let size : length zeros ≡ store_size = length-replicate {A = ℕ} store_size 0 in
-    let none : drop store_size zeros ≡ [] = drop_of_length-le zeros {i = store_size} (omega (arith, size)) in
-    let whole : zeros ++ drop store_size zeros ≡ zeros = ap (λ (l : List ℕ). zeros ++ l) none ∙ append-nil zeros in
-    let small : StartCalled = record { number = 14; store = zeros; state = first_state } in
-    let zeroed : StartCalled = record { number = 0; store = zeros ++ drop store_size zeros; state = first_state } in
-    (λ i. record { number = 0; store = sym whole i; state = e i })
-    ∙ sym (ap (λ t. cond t small zeroed) (le-ltb (length zeros) store_size (omega (arith, size))))
 
 -- an outcome is told by its number
 outcome_of_lem : (o : Outcome) → outcome_of (outcome_number o) ≡ o

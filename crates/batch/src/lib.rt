@@ -12,6 +12,7 @@ use deck_reader::strigol_read;
 use encoding::{STATE_SIZE, STORE_SIZE, TABLE_SIZE, WRITTEN_AT};
 use interpreter::run::{Outcome, run};
 use printing::{LONGEST_NUMBERS, put, put_numbers};
+use state::strigol_start;
 
 // the bytes kept of a deck, one more than a deck may have, and of the input
 pub const KEPT_DECK: usize = base::DECK + 1;
@@ -65,7 +66,7 @@ pub fn run_deck(deck: &[u8], input: &[u8], out: &mut [u8]) -> usize
     }
     let mut store = [0u8; STORE_SIZE];
     let mut state = [0u64; STATE_SIZE];
-    state::start(&mut state);
+    strigol_start(&mut store, &mut state);
     let ran = run(
         &table,
         &mut store,

@@ -1,8 +1,8 @@
 -- Laws of lines: where the first one ends, and what holds of all bytes of one.
 -- Assumes nothing.
-use mathlib.Core.Bool.{Bool, true, false, not, ◌&&◌, and_assoc, and-true}
+use mathlib.Core.Bool.{Bool, true, false, not, ◌&&◌, and-true}
 use mathlib.Core.List.{List, [], ◌∷◌, ◌++◌}
-use mathlib.Core.Path.{◌≡◌, refl, ap, sym, ◌∙◌}
+use mathlib.Core.Path.{◌≡◌, refl, ap, ap₂, sym, ◌∙◌}
 use Prim.Native.Nat.{ℕ, suc, ◌+◌, ◌-◌, ◌<◌}
 use native.Mathlib.Omega.{arith}
 use lib.Dec.{eqb}
@@ -12,11 +12,10 @@ use Rattle.std.proofs.lemmas.Bool.{eq-eqb, eqb-true}
 use Rattle.std.specs.Cmp.Lexicographic.{pointwise}
 use Rattle.std.specs.List.{list_all}
 use Rattle.base.specs.Choice.{test_cases, same_truth}
+use Rattle.base.specs.ListLaws.{all_both}
 use Rattle.base.specs.Lists.{all}
 use Rattle.cards.specs.Bytes.{newline, star, between, class_of, is_refused}
 use Rattle.cards.specs.Cards.{on_first, lines, is_comment}
-use Rattle.card_reader.specs.KeyLaws.{data_only}
-use Rattle.classes.specs.Laws.{data_range}
 use Rattle.card_reader.specs.Lines.{LineEnds}
 use Rattle.search.specs.NextLaws.{next-until}
 use Rattle.search.specs.Passing.{NextByte, until}
@@ -53,14 +52,11 @@ abbrev pub is_kept : ℕ → Bool
 is_kept b = not (is_refused (class_of b))
 
 -- one byte more is in the range
-pub kept_more : (xs : List ℕ) (b : ℕ) (within : Bool) → within ≡ all is_kept xs → (within && between 32 126 b) ≡ all is_kept (xs ++ b ∷ [])
+pub within_more : (xs : List ℕ) (b : ℕ) (within : Bool) → within ≡ all (between 32 126) xs
+    → (within && between 32 126 b) ≡ all (between 32 126) (xs ++ b ∷ [])
 unfolding all
-kept_more [] b within e =
-    ap (λ t. t && between 32 126 b) e ∙ same_truth _ _ (data_range b) (data_only b) ∙ sym (and-true (is_kept b))
-kept_more (x ∷ xs) b within e =
-    ap (λ t. t && between 32 126 b) e
-    ∙ and_assoc (is_kept x) (all is_kept xs) (between 32 126 b)
-    ∙ ap (λ t. is_kept x && t) (kept_more xs b (all is_kept xs) refl)
+within_more xs b within e =
+    ap₂ {C = Bool} ◌&&◌ e (sym (and-true (between 32 126 b))) ∙ sym (all_both (between 32 126) xs (b ∷ []))
 
 -- the library's words for what the definitions say of bytes
 pub all-listed : (f : ℕ → Bool) (xs : List ℕ) → list_all f xs ≡ all f xs

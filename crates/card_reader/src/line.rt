@@ -3,12 +3,12 @@
 ghost use Rattle.std.specs.Prelude.{not, ◌≡◌, ◌<◌, length, take, drop};
 ghost use Rattle.base.specs.Current.{current};
 ghost use Rattle.base.specs.Lists.{all};
-ghost use Rattle.cards.specs.Bytes.{class_of, is_refused};
+ghost use Rattle.cards.specs.Bytes.{between, class_of, is_refused};
 ghost use Rattle.cards.specs.Cards.{column9, is_blank_line, is_comment, sound_line, statement_text};
 ghost use Rattle.card_reader.specs.Lines.{LineEnds, is_skipped};
 
 use base::LINE;
-use classes::is_blank;
+use classes::{is_blank, is_refused};
 
 // the columns that count
 const COLUMNS: usize = 72;
@@ -24,20 +24,30 @@ pub fn line_end(deck: &[u8], from: usize) -> usize
     search::next_byte(deck, b'\n', from)
 }
 
-// Whether no byte is refused: those from 32 to 126 are not.
+// Whether all bytes are from 32 to 126: a first look, before the class of each is asked for.
 // kept: a fold that leaves no turn out becomes vector code: all takes 6 times as long over 80 bytes
-fn none_refused(line: &[u8]) -> bool
-    ensures { result ≡ all (λ b. not (is_refused (class_of b))) line.now }
+fn in_range(line: &[u8]) -> bool
+    ensures { result ≡ all (between 32 126) line.now }
 {
     line.iter()
         .fold(true, |within, b| within & ((b' ' <= *b) & (*b <= b'~')))
+}
+
+// whether no byte is refused, by the class of each
+fn none_refused(line: &[u8]) -> bool
+    ensures { result ≡ all (λ b. not (is_refused (class_of b))) line.now }
+{
+    line.iter().all(|b| !is_refused(*b))
 }
 
 // whether 3 finds the line sound: at most 80 bytes, none of them refused
 pub fn sound_line(line: &[u8]) -> bool
     ensures { result ≡ sound_line line.now }
 {
-    line.len() <= LINE && none_refused(line)
+    if LINE < line.len() {
+        return false;
+    }
+    in_range(line) || none_refused(line)
 }
 
 // the first n bytes, or all of them

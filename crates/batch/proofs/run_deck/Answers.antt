@@ -13,7 +13,7 @@ use Rattle.calls.specs.Strigol.{lent_output, most_steps}
 use Rattle.base.specs.Text.{bytes}
 use Rattle.interpreter.specs.Endings.{outcome_meaning, ran_back}
 use Rattle.batch.specs.Printing.{longest_line}
-use Rattle.batch.specs.PrintLaws.{word_short, refused_line, started_zeros, refused_printed, RunPrints, run-printed, ran-prints}
+use Rattle.batch.specs.PrintLaws.{word_short, refused_line, refused_printed, RunPrints, run-printed, ran-prints}
 use Rattle.batch.proofs.run_deck.Goals.{After-run-ran}
 use Rattle.batch.proofs.run_deck.Goals as goal
 
@@ -44,7 +44,7 @@ printing c =
     let read = c.strigol_read-number in
     run-printed (replicate table_size 0) (replicate store_size 0) (take 16384 c.args.out.now) read.new.card
     (ap (λ (n : ℕ). read_back n read.new.card read.new.table) (sym c.if-number-ne0.false) ∙ read.ensures.does)
-    (started_zeros c.start.ensures)
+    c.strigol_start.ensures.does
     c.run-ran.ensures
     (omega (arith, length-replicate {A = ℕ} store_size 0))
     (length-take-le 16384 c.args.out.now (room c.args.out.now c.requires.room))

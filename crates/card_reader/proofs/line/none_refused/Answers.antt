@@ -1,17 +1,13 @@
 -- `card_reader::line::none_refused` answers whether no byte is refused.
-use Rattle.std.proofs.Common.{rules}
-use Rattle.std.proofs.lemmas.Fn.{fold_over, fronts, slice_gives}
-use Rattle.base.specs.Lists.{all}
-use Rattle.cards.specs.Bytes.{between}
-use Rattle.card_reader.proofs.Lines.{is_kept, kept_more}
-use mathlib.Core.List.{List}
-use mathlib.Core.Path.{◌≡◌, refl, subst}
-use Prim.Native.Nat.{ℕ}
+use Rattle.std.proofs.Common.{rules, tests}
+use Rattle.std.proofs.lemmas.Iterator.{YieldsList-from_slice}
+use Rattle.std.proofs.lemmas.Iterator.Search.{all_from_yields_List}
+use Rattle.card_reader.proofs.Lines.{is_kept, all-listed}
+use mathlib.Core.Path.{◌∙◌}
 use Rattle.card_reader.proofs.line.none_refused.Goals as goal
 
 pub returns : goal.returns
-unfolding between all
 returns c =
-    subst (λ (l : List ℕ). c.fold.result ≡ all is_kept l) c.iter.ensures.rest
-    (fold_over fronts (λ y. y.now) _ (λ xs t. t ≡ all is_kept xs) _
-    (λ xs a x b f' e k. let more = kept_more xs x.now a e in search rules) _ _ _ _ (slice_gives c.iter.result) refl c.fold.ensures.ran)
+    let line = c.args.line.now in
+    all_from_yields_List is_kept _ _ _ c.all.ensures.ran (YieldsList-from_slice line (cc)) (λ x b q k. search (rules, tests))
+    ∙ all-listed is_kept line
