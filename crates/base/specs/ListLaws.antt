@@ -55,7 +55,11 @@ not_nil l h = nil_length l ∙ ne_eqb (length l) 0 (λ e. omega arith)
 pub drop-next : {A : Type 0} (l : List A) (i : ℕ) (d : A) → i < length l → drop i l ≡ get_or l i d ∷ drop (i + 1) l
 drop-next l i d h = drop-cons l i d h ∙ ap (λ (k : ℕ). get_or l i d ∷ drop k l) (sym (add-one i))
 
--- a test on all elements from a place on, where none is left
+-- a test on all elements from a place on: on that one and all behind it, and where none is left
+pub all-next : (f : ℕ → Bool) (l : List ℕ) (i : ℕ) → i < length l → all f (drop i l) ≡ (f (get_or l i 0) && all f (drop (i + 1) l))
+unfolding all
+all-next f l i h = ap (all f) (drop-next l i 0 h)
+
 pub all_end : (f : ℕ → Bool) (l : List ℕ) (i : ℕ) → length l ≤ i → all f (drop i l) ≡ true
 unfolding all
 all_end f l i h = ap (all f) (drop_of_length-le l h)

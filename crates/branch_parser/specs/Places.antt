@@ -59,7 +59,7 @@ module _ (known : Known) (key : ℕ) where
   tested : (k : ℕ) → same (name_of key) (name_of k) ≡ (k == key)
   tested k = name-same key k ∙ grind (arith, nat_tests)
 
-  label_place : (ls : List Listed.Label) → step_of (map label_meaning ls) (name_of key) ≡ step_found (find (λ l. l.key == key) ls)
+  pub label_place : (ls : List Listed.Label) → step_of (map label_meaning ls) (name_of key) ≡ step_found (find (λ l. l.key == key) ls)
   unfolding step_of label_meaning
   label_place [] = refl
   label_place (l ∷ ls) =

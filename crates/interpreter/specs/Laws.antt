@@ -362,7 +362,7 @@ zeros_good =
     subst StoreGood (append-nil (store_image (replicate 32 [])) ∙ fresh-image 32) (image_good (replicate 32 []) [] refl
     (replicate_everywhere (λ (v : List ℕ). length v ≤ 1024) 32 [] (omega arith)))
 
--- what the tests of unfit tell
+-- what the tests of check_fit tell
 refused_as : (small rules store state : Bool) (n m : ℕ) → m ≡ cond small 2 (cond rules 13 (cond store 14 (cond state 15 0))) → 0 < m
     → cond small 2 (cond rules 13 (cond store 14 (cond state 15 n))) ≡ m
 refused_as true rules store state n m e h = sym e

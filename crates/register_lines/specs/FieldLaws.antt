@@ -84,7 +84,7 @@ module _ (p : ℕ → Bool) where
       })
 
 -- the runs that the code counts
-names_run : (line : List ℕ) → RunOfBytes is_name_byte line (prefix_len (λ b. is_ascii_uppercase b || is_ascii_digit b) line)
+pub names_run : (line : List ℕ) → RunOfBytes is_name_byte line (prefix_len (λ b. is_ascii_uppercase b || is_ascii_digit b) line)
 unfolding is_name_byte is_letter is_digit between
 names_run line = run_front (λ b. is_ascii_uppercase b || is_ascii_digit b) line
 

@@ -145,7 +145,7 @@ module _ (store : List ℕ) (g : StoreGood store) (s : ℕ) (h : s < 32) where
       ∙ written v (omega arith)
 
   -- a part of the string is that part of the store
-  part_of : (i : ℕ) → i ≤ length (string_of store s)
+  pub part_of : (i : ℕ) → i ≤ length (string_of store s)
       → drop i (string_of store s) ≡ take (length (string_of store s) - i) (drop (1026 * s + 2 + i) store)
   part_of i k =
       let o = length (string_of store s) in

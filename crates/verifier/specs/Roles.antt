@@ -113,14 +113,14 @@ same-cells t bytes k at (x ∷ xs) same =
     let places = byte-read t (place + 1) c.place value (stands_back t (c.kind ∷ []) (c.place ∷ value) stands) in
     (at, kinds, places, omega (arith, places, bytes (place + 1)), same-cells t bytes (k + 1) (at + length (literal_in x)) xs same.2)
 
-marks_size_lem : (marks : List Bool) (k p : ℕ) → length (marks_after marks k p) ≡ length marks
+pub marks_size_lem : (marks : List Bool) (k p : ℕ) → length (marks_after marks k p) ≡ length marks
 unfolding marks_after
 marks_size_lem marks k p =
     test_cases (λ b. length (cond b marks (set marks p true)) ≡ length marks) (ltb k 96) (λ _. refl) (λ _. length-set marks p true)
 
 -- what the code's loop does up to an end: one element more, one whose role isn't as it should be, and none left
 module _ (t : List ℕ) (r : ℕ) (marks : List Bool) (i end : ℕ) {x : Bool} (same : x ≡ roles_test t r marks i (end - i)) where
-  roles-turn : {kind place : ℕ} {role : Bool} → (cell_at t (elements_at + 8 * i)).kind ≡ kind → (cell_at t (elements_at + 8 * i)).place ≡ place
+  pub roles-turn : {kind place : ℕ} {role : Bool} → (cell_at t (elements_at + 8 * i)).kind ≡ kind → (cell_at t (elements_at + 8 * i)).place ≡ place
       → role ≡ role_test r kind place (get_or marks place false) → i < end
       → x ≡ role && roles_test t r (marks_after marks kind place) (i + 1) (end - (i + 1))
   roles-turn {kind} {place} e f is h =
