@@ -38,7 +38,7 @@ pub record NamesReady (names : Names) (es : List NameEntry) : Type 0 where
   pub room : names.count + length es ≤ names_room
   pub single : Single (names_in names)
 
--- the number, and the names put behind those before, which stay; where the number is 0 these are the names known then
+-- the number, and the names put behind those before, which stay; where the number is 0 all the new ones are
 pub record NamesEntered (known : Known) (names : Names) (es : List NameEntry) (names' : Names) (r : Result (Unit {0}) Refusal) : Type 0 where
   pub number : judged_number r ≡ names_number known (names_in names) es
   pub few : names'.count ≤ names.count + length es
@@ -48,13 +48,7 @@ pub record NamesEntered (known : Known) (names : Names) (es : List NameEntry) (n
   pub extended : IfOk r (λ _. names_in names' ≡ with_names (names_in names) (names_of es))
   pub single : IfOk r (λ _. Single (names_in names'))
 
--- the number, and the names known then: those before, which stay, and where the number is 0 the new ones behind them
+-- the same, but where the number is another the names known are those before
 pub record NamesJudged (known : Known) (names : Names) (es : List NameEntry) (names' : Names) (r : Result (Unit {0}) Refusal) : Type 0 where
-  pub number : judged_number r ≡ names_number known (names_in names) es
-  pub few : names'.count ≤ names.count + length es
-  pub more : names.count ≤ names'.count
-  pub keys_kept : (i : ℕ) → i < names.count → get_or names'.keys i 0 ≡ get_or names.keys i 0
-  pub purposes_kept : (i : ℕ) → i < names.count → get_or names'.purposes i Program ≡ get_or names.purposes i Program
-  pub extended : IfOk r (λ _. names_in names' ≡ with_names (names_in names) (names_of es))
-  pub single : IfOk r (λ _. Single (names_in names'))
+  pub entered : NamesEntered known names es names' r
   pub refused : IfErr r (λ _. names_in names' ≡ names_in names)

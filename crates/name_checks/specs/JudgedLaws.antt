@@ -160,13 +160,16 @@ module _ (known : Known) (names : Names) (es : List NameEntry) (ready : NamesRea
   judged_refused names' (Ok x) n e = absurd (false≢true e)
   judged_refused names' (Err x) n e =
       record {
-        number = n.number;
-        few = omega arith;
-        more = omega arith;
-        keys_kept = n.keys_kept;
-        purposes_kept = n.purposes_kept;
-        extended = tt;
-        single = tt;
+        entered =
+            record {
+              number = n.number;
+              few = omega arith;
+              more = omega arith;
+              keys_kept = n.keys_kept;
+              purposes_kept = n.purposes_kept;
+              extended = tt;
+              single = tt;
+            };
         refused =
             names_kept names.keys names.purposes names'.keys names'.purposes 0 names.count
             (λ j h. n.keys_kept j (omega arith)) (λ j h. n.purposes_kept j (omega arith));

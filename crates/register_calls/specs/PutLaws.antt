@@ -155,7 +155,7 @@ module _ (buffer line : List ℕ) (at : ℕ) where
     room_four = omega (arith, room, length-append line (44 ∷ house), length-take-le 3 buffer (omega (arith, low, room_line)))
 
     -- the house currency is still there behind the line put
-    house_stays : take 3 (splice buffer at line) ≡ house
+    pub house_stays : take 3 (splice buffer at line) ≡ house
     house_stays =
         sym (take-take 3 at (splice buffer at line) low) ∙ ap (take 3) (take-splice buffer at line (omega (arith, room_line)))
         ∙ take-take 3 at buffer low

@@ -65,8 +65,7 @@ fn open(buffer: &mut [u8], currency: &[u8]) -> Result<(), Refusal>
     if !is_currency(currency) {
         return Err(Refusal::BadCurrency);
     }
-    // kept: of an array of zeros, here and in offer: new makes it number by number, 1.3 of the instructions where no line is held
-    let mut keys = ArrayVec::from([0; LINES]);
+    let mut keys = ArrayVec::new();
     match read_register(buffer, &mut keys).ok_or(Refusal::BadBuffer)? {
         Fields::Five => tell_house(buffer, currency),
         Fields::Four => open_old(buffer, keys.len(), currency),
@@ -113,7 +112,7 @@ fn put_stored(buffer: &mut [u8], at: usize, line: &[u8], fields: Fields)
 fn offer(buffer: &mut [u8], line: &[u8]) -> Result<(), Refusal>
     ensures { buffer_back (number_of result) buffer.new ≡ offer_call buffer.old line.now }
 {
-    let mut keys = ArrayVec::from([0; LINES]);
+    let mut keys = ArrayVec::new();
     read_keys(buffer, &mut keys)?;
     let form = judge(line, &keys)?;
     put_stored(buffer, slot_at(keys.len()), line, form.fields);

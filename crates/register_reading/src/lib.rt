@@ -147,8 +147,7 @@ pub fn read_keys(buffer: &[u8], keys: &mut ArrayVec<u64, LINES>) -> Result<(), R
 pub fn read_opened(buffer: &[u8]) -> Result<Opened<'_>, Refusal>
     ensures { OpenedRead buffer.now result }
 {
-    // kept: of an array of zeros, which read_slots clears: new makes it number by number, 1.3 of the instructions where no line is held
-    let mut keys = ArrayVec::from([0; LINES]);
+    let mut keys = ArrayVec::new();
     read_keys(buffer, &mut keys)?;
     Ok(Opened {
         buffer,
