@@ -58,7 +58,7 @@ use Rattle.symbols.specs.declared.known.Names.{Names}
 use Rattle.symbols.specs.declared.known.Symbols.{Symbols}
 use Rattle.name_checks.specs.Shown.{entry_at, entries_from}
 use Rattle.name_checks.specs.Declaring.{declared_in, undeclared_in}
-use Rattle.name_checks.specs.Judged.{names_of, names_number, NamesJudged}
+use Rattle.name_checks.specs.Judged.{names_of, names_number, NamesEntered}
 use Rattle.statement_checks.specs.Counts.{steps_behind, ended_behind, is_over}
 use Rattle.statement_checks.specs.Cuts.{cut_whole, cut_over}
 use Rattle.statement_checks.specs.Judged.{Tallied}
@@ -206,7 +206,7 @@ with_names_of s names = record { known = s.known; names = names; uses = s.uses }
 -- behind a statement by which the environment is extended
 module _ (s : Symbols) (taken : ℕ) (k : Environment) (h : SymbolsHold s taken k) (kind : Kind) (m : Mentioned) (c : Cursor)
     (items : ℕ) (rows : List ℕ) (literals : ℕ) (counts : Tallied k c items rows literals) (names' : Names)
-    (names : NamesJudged s.known s.names (entries_from m 0 c.names) names' (Ok tt))
+    (names : NamesEntered s.known s.names (entries_from m 0 c.names) names' (Ok tt))
     (s' : Symbols) (l : Extended (with_names_of s names') (entries_from m 0 c.names) c kind s') where
   abbrev known' : Known
   known' = s'.known
@@ -222,7 +222,7 @@ module _ (s : Symbols) (taken : ℕ) (k : Environment) (h : SymbolsHold s taken 
 
   names_are : names_in names' ≡ behind.names
   unfolding extend mentions_in
-  names_are = names.entered.extended ∙ ap (λ l. with_names l (names_of es)) h.names
+  names_are = names.extended ∙ ap (λ l. with_names l (names_of es)) h.names
 
   labels_are : labels_in s.known ++ labels_by s.known.steps (name_of s.known.scope) es ≡ behind.labels
   unfolding extend mentions_in labels_at labels_by
@@ -326,7 +326,7 @@ module _ (s : Symbols) (taken : ℕ) (k : Environment) (h : SymbolsHold s taken 
       let numbers = ltb-false Limits.numbers (length (number_keys known')) p₃.0 in
       let labels = ltb-false Limits.labels (length known'.labels.items) p₄.0 in
       record {
-        few_names = omega (arith, ap (λ (n : Names). n.count) l.names, names.entered.few, h.few_names, entry_size);
+        few_names = omega (arith, ap (λ (n : Names). n.count) l.names, names.few, h.few_names, entry_size);
         few_uses = omega (arith, l.used.few, h.few_uses, entry_size);
         few_statements = ltb-false Limits.statements known'.statements p₁.0;
         few_steps = omega (arith, l.steps, l.statements, steps_few s.known.steps kind, h.few_steps);
@@ -351,5 +351,5 @@ module _ (s : Symbols) (taken : ℕ) (k : Environment) (h : SymbolsHold s taken 
         elements = elements_are;
         items = items_are;
         literals = literals_are;
-        single = subst (λ ns. any (has_other_purpose ns) ns ≡ false) names_are names.entered.single;
+        single = subst (λ ns. any (has_other_purpose ns) ns ≡ false) names_are names.single;
       }

@@ -21,7 +21,7 @@ use Rattle.symbols.specs.declared.known.Names.{Names}
 use Rattle.symbols.specs.declared.known.Symbols.{Symbols}
 use Rattle.name_checks.specs.ShownLaws.{names_kept}
 use Rattle.name_checks.specs.Shown.{environment_in, entry_at, entries_from}
-use Rattle.name_checks.specs.Judged.{NamesReady, NamesJudged}
+use Rattle.name_checks.specs.Judged.{NamesReady, NamesEntered}
 use Rattle.lexer.specs.Kinds.{kind_of}
 use Rattle.lexer.specs.declared.keywords.Kind.{Kind}
 use Rattle.statement_checks.specs.Counts.{is_over}
@@ -48,17 +48,17 @@ names_ready s m c r =
     record { room = omega (arith, r.held.few_names, r.room, length_from (entry_at m.keys m.tags) 0 c.names); single = r.held.single }
 
 -- the names are refused
-pub judged_names : (s : Symbols) (m : Mentioned) (c : Cursor) (names' : Names) {e : Refusal} → NamesJudged s.known s.names (entries_from m 0 c.names) names' (Err e)
+pub judged_names : (s : Symbols) (m : Mentioned) (c : Cursor) (names' : Names) {e : Refusal} → NamesEntered s.known s.names (entries_from m 0 c.names) names' (Err e)
     → (kind : Kind) (s' : Symbols) → StatementJudged s m c kind s' (refusal_number e)
 judged_names s m c names' {e} names kind s' =
     record {
       number = λ taken k h items rows literals b.
-          number_some s taken k h kind (entries_from m 0 c.names) items rows literals (refusal_number e) names.entered.number (refusal_number_some e);
+          number_some s taken k h kind (entries_from m 0 c.names) items rows literals (refusal_number e) names.number (refusal_number_some e);
       extended = λ z taken k h items rows literals b taken' room. absurd (refusal_number_some e z);
     }
 
 module _ (s : Symbols) (m : Mentioned) (c : Cursor) (ready : Judgeable s c) (names' : Names)
-    (names : NamesJudged s.known s.names (entries_from m 0 c.names) names' (Ok tt)) where
+    (names : NamesEntered s.known s.names (entries_from m 0 c.names) names' (Ok tt)) where
   -- n names of a purpose, by their keys
   listed : (p : Purpose) (keys : List ℕ) → length keys ≤ most → map name_of keys ≡ names_for p (names_in s.names)
       → Listing most names' s.names.count p keys
@@ -70,10 +70,10 @@ module _ (s : Symbols) (m : Mentioned) (c : Cursor) (ready : Judgeable s c) (nam
             held
             ∙ sym (take_all most (names_for p (names_in s.names)) (omega arith))
             ∙ ap (λ ns. take most (names_for p ns))
-            (sym (names_kept s.names.keys s.names.purposes names'.keys names'.purposes 0 s.names.count (λ j g. names.entered.keys_kept j (omega arith))
-            (λ j g. names.entered.purposes_kept j (omega arith))));
-        inside = names.entered.more;
-        room = omega (arith, names.entered.few, ready.held.few_names, ready.room, length_from (entry_at m.keys m.tags) 0 c.names);
+            (sym (names_kept s.names.keys s.names.purposes names'.keys names'.purposes 0 s.names.count (λ j g. names.keys_kept j (omega arith))
+            (λ j g. names.purposes_kept j (omega arith))));
+        inside = names.more;
+        room = omega (arith, names.few, ready.held.few_names, ready.room, length_from (entry_at m.keys m.tags) 0 c.names);
       }
 
   -- and can be extended by the statement
@@ -99,7 +99,7 @@ module _ (s : Symbols) (m : Mentioned) (c : Cursor) (ready : Judgeable s c) (nam
     judged_nine s' w =
         record {
           number = λ taken k h items rows literals b.
-              number_nine s taken k h kind es items rows literals 0 names.entered.number refl w;
+              number_nine s taken k h kind es items rows literals 0 names.number refl w;
           extended = λ e taken k h items rows literals b taken' room. absurd (omega arith);
         }
 
@@ -109,7 +109,7 @@ module _ (s : Symbols) (m : Mentioned) (c : Cursor) (ready : Judgeable s c) (nam
           → cond t 10 0 ≡ mentions_number k (kind_of kind) (mentions_in es items rows literals)
       ten t e taken k h items rows literals b =
           ap (λ x. cond x 10 0) (sym e ∙ over_is s taken k h kind m c items rows literals b names' names s' l)
-          ∙ number_rest s taken k h kind es items rows literals 0 names.entered.number refl w
+          ∙ number_rest s taken k h kind es items rows literals 0 names.number refl w
 
       pub judged_over : is_over s'.known c.longest ≡ true → StatementJudged s m c kind s' 10
       judged_over e =

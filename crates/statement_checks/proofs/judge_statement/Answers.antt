@@ -11,28 +11,28 @@ pub returns-in_err-judge_names : goal.returns-in_err-judge_names
 returns-in_err-judge_names c =
     let a = c.args in
     let p = err_from_is_err_and c.from_residual.result c.from_residual.ensures.1 in
-    rw (p.1, p.2) (judged_names a.symbols.now a.mentioned.now a.c _ (rw c.first-entries.ensures.1 at c.in_err-judge_names.ensures) a.kind _)
+    rw (p.1, p.2) (judged_names a.symbols.now a.mentioned.now a.c _ (rw c.first-entries.ensures.1 at c.in_err-judge_names.ensures.entered) a.kind _)
 
 pub returns-then-stands_wrong : goal.returns-then-stands_wrong
 returns-then-stands_wrong c =
     let a = c.args in
-    judged_nine a.symbols.now a.mentioned.now a.c c.requires _ (rw c.first-entries.ensures.1 at c.in_ok-judge_names.ensures) a.kind _
+    judged_nine a.symbols.now a.mentioned.now a.c c.requires _ (rw c.first-entries.ensures.1 at c.in_ok-judge_names.ensures.entered) a.kind _
     (sym c.stands_wrong.ensures ∙ c.if-stands_wrong.true)
 
 pub extend-requires : goal.extend-requires
 extend-requires c =
     let a = c.args in
     rw c.first-entries.ensures.0
-    (extendable a.symbols.now a.mentioned.now a.c c.requires _ (rw c.first-entries.ensures.1 at c.in_ok-judge_names.ensures))
+    (extendable a.symbols.now a.mentioned.now a.c c.requires _ (rw c.first-entries.ensures.1 at c.in_ok-judge_names.ensures.entered))
 
 pub returns-then-is_over : goal.returns-then-is_over
 returns-then-is_over c =
     let a = c.args in
-    judged_over a.symbols.now a.mentioned.now a.c c.requires _ (rw c.first-entries.ensures.1 at c.in_ok-judge_names.ensures) a.kind
+    judged_over a.symbols.now a.mentioned.now a.c c.requires _ (rw c.first-entries.ensures.1 at c.in_ok-judge_names.ensures.entered) a.kind
     (sym c.stands_wrong.ensures ∙ c.if-stands_wrong.false) _ (rw c.first-entries.ensures.1 at c.extend.ensures) (sym c.is_over.ensures ∙ c.if-is_over.true)
 
 pub returns : goal.returns
 returns c =
     let a = c.args in
-    judged_zero a.symbols.now a.mentioned.now a.c c.requires _ (rw c.first-entries.ensures.1 at c.in_ok-judge_names.ensures) a.kind
+    judged_zero a.symbols.now a.mentioned.now a.c c.requires _ (rw c.first-entries.ensures.1 at c.in_ok-judge_names.ensures.entered) a.kind
     (sym c.stands_wrong.ensures ∙ c.if-stands_wrong.false) _ (rw c.first-entries.ensures.1 at c.extend.ensures) (sym c.is_over.ensures ∙ c.if-is_over.false)
